@@ -1,0 +1,4 @@
+pub mod Bools
+pub mod ListLaws
+pub mod FallingLaws
+pub mod NumberLaws

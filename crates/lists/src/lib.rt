@@ -1,0 +1,1 @@
+// No code: words on lists and numbers (specs/), and their laws (proofs/).

@@ -1,0 +1,40 @@
+-- Answers, and the paper's number and value for each.
+use Prim.Native.Nat.{ℕ}
+use lib.IntN.{ℤ, negsuc}
+use mathlib.Core.Bool.{Bool}
+use mathlib.Core.List.{List, [], _∷_}
+use Rattle.lists.specs.Lists.{if_then_else_}
+use Rattle.tables.specs.declared.Tables.{Tables}
+use Rattle.rules.specs.declared.Answer.{Answer}
+use Rattle.rules.specs.declared.Answer.the-variants.{Done, Refused}
+use Rattle.rules.specs.declared.Outcome.{Outcome}
+
+-- the refusal number, 0 for none
+abbrev pub numberOf : Answer → ℕ
+numberOf (Done v) = 0
+numberOf (Refused n) = n
+
+-- the value, -1 of every refused call
+abbrev pub valueOf : Answer → ℤ
+valueOf (Done v) = v
+valueOf (Refused n) = negsuc 0
+
+abbrev pub done : ℤ → Tables → Outcome
+done v t = record { tables = t; answer = Done v }
+
+abbrev pub refused : ℕ → Tables → Outcome
+refused n t = record { tables = t; answer = Refused n }
+
+-- a refusal number, given when its test holds
+infix 4 _when_
+pub record Check : Type 0 where
+  pub number : ℕ
+  pub holds : Bool
+
+abbrev pub _when_ : ℕ → Bool → Check
+n when b = record { number = n; holds = b }
+
+-- of several the first counts, and nothing changes
+abbrev pub unless : Tables → List Check → Outcome → Outcome
+unless t [] o = o
+unless t (c ∷ cs) o = if c .holds then refused (c .number) t else unless t cs o

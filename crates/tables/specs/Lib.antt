@@ -1,0 +1,7 @@
+pub mod Limits
+pub mod States
+pub mod Readers
+pub mod Setters
+pub mod Boot
+pub mod Sound
+pub mod Test
