@@ -1,13 +1,13 @@
 -- Laws of a list in falling order. Assumes nothing.
-use Prim.Native.Nat.{ℕ, zero, suc, _+_, _≤_, _<_}
+use Prim.Native.Nat.{_≤_, suc, ℕ}
 use native.Mathlib.Omega.{arith}
 use mathlib.Core.Path.{_≡_, refl}
-use mathlib.Core.Bool.{Bool, true, false}
+use mathlib.Core.Bool.{Bool, false, true}
 use mathlib.Core.List.{List, [], _∷_}
 use lib.Dec.{eqb, leb}
-use borrow.Author.Tests.{eqb-true, leb-true, le-leb}
-use Rattle.lists.proofs.Bools.{both, and-in}
-use Rattle.lists.specs.Lists.{if_then_else_, filter, putBefore, times, AtMost, Falling, falls}
+use borrow.Author.Tests.{eqb-true, le-leb, leb-true}
+use Rattle.lists.specs.Lists.{AtMost, Falling, falls, filter, if_then_else_, putBefore, times}
+use Rattle.lists.proofs.Bools.{and-in, both}
 
 module _ (rank : ℕ → ℕ) where
   pub atMost-mono : (m n : ℕ) (xs : List ℕ) → m ≤ n → AtMost rank m xs → AtMost rank n xs

@@ -1,17 +1,17 @@
 -- Laws of what is listed and of what holds of every number below a limit. Assumes nothing.
-use Prim.Native.Nat.{ℕ, zero, suc, _+_, _≤_, _<_}
-use mathlib.Core.Path.{_≡_, refl, sym, ap, _∙_}
-use mathlib.Core.Bool.{Bool, true, false, _&&_}
-use mathlib.Core.List.{List, [], _∷_, _++_, map}
+use Prim.Native.Nat.{_+_, _<_, _≤_, suc, zero, ℕ}
 use native.Mathlib.Numerals.{add-one}
 use native.Mathlib.Omega.{arith}
+use mathlib.Core.Path.{_∙_, _≡_, ap, refl, sym}
+use mathlib.Core.Bool.{Bool, _&&_, false, true}
+use mathlib.Core.List.{List, [], _++_, _∷_}
 use lib.Dec.{eqb, ltb}
-use lib.ListN.{length, getD, set, take}
-use lib.Seq.{take-suc, take-suc-set, take-all}
-use borrow.Author.Tests.{eqb-true, eqb-false, ne-eqb, lt-ltb, le-ltb}
+use lib.ListN.{getD, length, set, take}
+use lib.Seq.{take-all, take-suc, take-suc-set}
+use borrow.Author.Tests.{eqb-false, eqb-true, le-ltb, lt-ltb, ne-eqb}
 use Rattle.lists.specs.Lists.{if_then_else_, times}
-use Rattle.lists.specs.Numbers.{listed, countUp, all}
-use Rattle.lists.proofs.Bools.{either, below?, both, and-no}
+use Rattle.lists.specs.Numbers.{all, countUp, listed}
+use Rattle.lists.proofs.Bools.{and-no, below?, both, either}
 
 -- listed
 

@@ -1,0 +1,5 @@
+pub mod Signed
+pub mod Regions
+pub mod Writers
+pub mod Readers
+pub mod Image

@@ -1,0 +1,1 @@
+// Lent bytes read as typed tables.

@@ -1,0 +1,1 @@
+// Typed tables written to lent bytes.

@@ -1,0 +1,31 @@
+// Four bytes as a word, and a word as a signed number.
+ghost use mathlib.Core.Path.{_≡_};
+ghost use mir.Syntax.{w32};
+ghost use mir.Val.{ofZ, toZ};
+ghost use Rattle.layout.specs.Bytes.{of4};
+
+pub fn word(a: u8, b: u8, c: u8, d: u8) -> u32
+    ensures { λ r. ⌜ r ≡ of4 a b c d ⌝ }
+{
+    (a as u32) + (b as u32) * 256 + (c as u32) * 65536 + (d as u32) * 16777216
+}
+
+pub fn signed(u: u32) -> i32
+    ensures { λ r. ⌜ r ≡ toZ w32 u ⌝ }
+{
+    if u < 2147483648 {
+        u as i32
+    } else {
+        -1 - ((4294967295 - u) as i32)
+    }
+}
+
+pub fn unsigned(c: i32) -> u32
+    ensures { λ r. ⌜ r ≡ ofZ w32 c ⌝ }
+{
+    if c < 0 {
+        4294967295 - ((-1 - c) as u32)
+    } else {
+        c as u32
+    }
+}
