@@ -1,7 +1,4 @@
 -- The tables fix every byte, and the bytes fix the tables. Assumes nothing.
-
-
--- Tables that stand in two lists of bytes make them one
 use Prim.Native.Nat.{_%_, _*_, _+_, _-_, _/_, _<_, _≤_, ℕ}
 use native.Mathlib.Nat.{add-mul-mod-self-right, div-add-mod', mod-eq-of-lt}
 use native.Mathlib.Omega.{arith}
@@ -27,6 +24,8 @@ use Rattle.layout.specs.Bytes.{byteOf, byteState, countByte, flagPlain, 
 use Rattle.layout.specs.Offsets.{countsAt, nextProcessAt, nextSemaphoreAt, orderAt, prioritiesAt, size, statesAt, usedAt}
 use Rattle.layout.specs.Stands.{Held, Named, Region, Stands, Word, Words}
 use Rattle.layout.proofs.Readers.{byte-waiting, place-read, process-read, semaphore-read}
+
+-- Tables that stand in two lists of bytes make them one
 
 module _ (a b : List ℕ) (i : ℕ) where
   in-region : (at n : ℕ) (f : ℕ → ℕ) → at ≤ i → i < at + n → Region at n f a → Region at n f b → getD a i 0 ≡ getD b i 0
@@ -68,32 +67,32 @@ unfolding toBytes
 bytes-long t = listed-length (byteOf t) 0 size
 
 module _ (t : Tables) where
-  byte-at : (i : ℕ) → i < size → getD (toBytes t) i 0 ≡ byteOf t i
+  pub byte-at : (i : ℕ) → i < size → getD (toBytes t) i 0 ≡ byteOf t i
   unfolding toBytes
   byte-at i h = listed-at (byteOf t) size i 0 h
 
-  state-byte : (p : ℕ) → p < processLimit → byteOf t (statesAt + p) ≡ stateByte (stateOf t p)
+  pub state-byte : (p : ℕ) → p < processLimit → byteOf t (statesAt + p) ≡ stateByte (stateOf t p)
   state-byte p h = let e : statesAt + p - statesAt ≡ p = omega arith in rw (lt-ltb (statesAt + p) prioritiesAt (omega arith), e)
 
-  priority-byte : (p : ℕ) → p < processLimit → byteOf t (prioritiesAt + p) ≡ priorityOf t p
+  pub priority-byte : (p : ℕ) → p < processLimit → byteOf t (prioritiesAt + p) ≡ priorityOf t p
   priority-byte p h =
       let i : ℕ = prioritiesAt + p in
       let e : prioritiesAt + p - prioritiesAt ≡ p = omega arith in
       rw (le-ltb i prioritiesAt (omega arith), lt-ltb i usedAt (omega arith), e)
 
-  used-byte : (s : ℕ) → s < semaphoreLimit → byteOf t (usedAt + s) ≡ usedByte (isUsed t s)
+  pub used-byte : (s : ℕ) → s < semaphoreLimit → byteOf t (usedAt + s) ≡ usedByte (isUsed t s)
   used-byte s h =
       let i : ℕ = usedAt + s in
       let e : usedAt + s - usedAt ≡ s = omega arith in
       rw (le-ltb i prioritiesAt (omega arith), le-ltb i usedAt (omega arith), lt-ltb i countsAt (omega arith), e)
 
-  count-byte : (s d i : ℕ) → s < semaphoreLimit → d < 4 → i ≡ countsAt + s * 4 + d → byteOf t i ≡ countByte (countOf t s) d
+  pub count-byte : (s d i : ℕ) → s < semaphoreLimit → d < 4 → i ≡ countsAt + s * 4 + d → byteOf t i ≡ countByte (countOf t s) d
   count-byte s d i h k e =
       let q : (i - countsAt) / 4 ≡ s = omega arith in
       let r : (i - countsAt) % 4 ≡ d = omega arith in
       rw (le-ltb i prioritiesAt (omega arith), le-ltb i usedAt (omega arith), le-ltb i countsAt (omega arith), lt-ltb i orderAt (omega arith), q, r)
 
-  place-byte : (j : ℕ) → j < processLimit → byteOf t (orderAt + j) ≡ getD (t .order) j 0
+  pub place-byte : (j : ℕ) → j < processLimit → byteOf t (orderAt + j) ≡ getD (t .order) j 0
   place-byte j h =
       let i : ℕ = orderAt + j in
       let e : orderAt + j - orderAt ≡ j = omega arith in
@@ -101,38 +100,42 @@ module _ (t : Tables) where
 
   word-of : (s : ℕ) → s < semaphoreLimit → Word (countsAt + s * 4) (ofZ w32 (countOf t s)) (toBytes t)
   word-of s h =
-      record { b0 = byte-at (countsAt + s * 4) (omega arith) ∙ count-byte s 0 (countsAt + s * 4) h (omega arith) (omega arith)
-             ; b1 = byte-at (countsAt + s * 4 + 1) (omega arith) ∙ count-byte s 1 (countsAt + s * 4 + 1) h (omega arith) refl
-             ; b2 = byte-at (countsAt + s * 4 + 2) (omega arith) ∙ count-byte s 2 (countsAt + s * 4 + 2) h (omega arith) refl
-             ; b3 = byte-at (countsAt + s * 4 + 3) (omega arith) ∙ count-byte s 3 (countsAt + s * 4 + 3) h (omega arith) refl }
+      record {
+        b0 = byte-at (countsAt + s * 4) (omega arith) ∙ count-byte s 0 (countsAt + s * 4) h (omega arith) (omega arith);
+        b1 = byte-at (countsAt + s * 4 + 1) (omega arith) ∙ count-byte s 1 (countsAt + s * 4 + 1) h (omega arith) refl;
+        b2 = byte-at (countsAt + s * 4 + 2) (omega arith) ∙ count-byte s 2 (countsAt + s * 4 + 2) h (omega arith) refl;
+        b3 = byte-at (countsAt + s * 4 + 3) (omega arith) ∙ count-byte s 3 (countsAt + s * 4 + 3) h (omega arith) refl;
+      }
 
   pub stands-made : Held t → Stands t (toBytes t)
   unfolding Region Words
   stands-made h =
-      record { held = h
-             ; long = bytes-long t
-             ; states = λ p k. byte-at (statesAt + p) (omega arith) ∙ state-byte p k
-             ; priorities = λ p k. byte-at (prioritiesAt + p) (omega arith) ∙ priority-byte p k
-             ; used = λ s k. byte-at (usedAt + s) (omega arith) ∙ used-byte s k
-             ; counts = word-of
-             ; order = λ i k. byte-at (orderAt + i) (omega arith) ∙ place-byte i k
-             ; nextSemaphore = byte-at nextSemaphoreAt (omega arith)
-             ; nextProcess = byte-at nextProcessAt (omega arith) }
+      record {
+        held = h;
+        long = bytes-long t;
+        states = λ p k. byte-at (statesAt + p) (omega arith) ∙ state-byte p k;
+        priorities = λ p k. byte-at (prioritiesAt + p) (omega arith) ∙ priority-byte p k;
+        used = λ s k. byte-at (usedAt + s) (omega arith) ∙ used-byte s k;
+        counts = word-of;
+        order = λ i k. byte-at (orderAt + i) (omega arith) ∙ place-byte i k;
+        nextSemaphore = byte-at nextSemaphoreAt (omega arith);
+        nextProcess = byte-at nextProcessAt (omega arith);
+      }
 
 -- The tables that bytes are, entry by entry
 
 module _ (bs : List ℕ) where
-  pub process-is : (p : ℕ) → p < processLimit → process (fromBytes bs) p ≡ processAt bs p
+  pub process-said : (p : ℕ) → p < processLimit → process (fromBytes bs) p ≡ processAt bs p
   unfolding fromBytes
-  process-is p h = listed-at (processAt bs) processLimit p freeSlot h
+  process-said p h = listed-at (processAt bs) processLimit p freeSlot h
 
-  pub semaphore-is : (s : ℕ) → s < semaphoreLimit → semaphore (fromBytes bs) s ≡ semaphoreAt bs s
+  pub semaphore-said : (s : ℕ) → s < semaphoreLimit → semaphore (fromBytes bs) s ≡ semaphoreAt bs s
   unfolding fromBytes
-  semaphore-is s h = listed-at (semaphoreAt bs) semaphoreLimit s freeSemaphore h
+  semaphore-said s h = listed-at (semaphoreAt bs) semaphoreLimit s freeSemaphore h
 
-  pub place-is : (i : ℕ) → i < processLimit → getD (fromBytes bs .order) i 0 ≡ placeAt bs i
+  pub place-said : (i : ℕ) → i < processLimit → getD (fromBytes bs .order) i 0 ≡ placeAt bs i
   unfolding fromBytes
-  place-is i h = listed-at (placeAt bs) processLimit i 0 h
+  place-said i h = listed-at (placeAt bs) processLimit i 0 h
 
   pub processes-long : length (fromBytes bs .processes) ≡ processLimit
   unfolding fromBytes
@@ -207,11 +210,12 @@ module _ (a b c d : ℕ) (ha : a < 256) (hb : b < 256) (hc : c < 256) (hd : d < 
       let f : n ≡ a + (b + (c + d * 256) * 256) * 256 = omega arith in
       let q₁ : n / 256 ≡ b + (c + d * 256) * 256 = omega arith in
       let q₂ : n / 65536 ≡ c + d * 256 = omega arith in
-      let q₃ : n / 16777216 ≡ d = omega arith in
-      (sym (ap (λ (k : ℕ). k % 256) f ∙ low a (b + (c + d * 256) * 256) ha),
-       sym (ap (λ (k : ℕ). k % 256) q₁ ∙ low b (c + d * 256) hb),
-       sym (ap (λ (k : ℕ). k % 256) q₂ ∙ low c d hc),
-       sym (ap (λ (k : ℕ). k % 256) q₃ ∙ mod-eq-of-lt hd))
+      let q₃ : n / 16777216 ≡ d = omega arith in (
+        sym (ap (λ (k : ℕ). k % 256) f ∙ low a (b + (c + d * 256) * 256) ha),
+        sym (ap (λ (k : ℕ). k % 256) q₁ ∙ low b (c + d * 256) hb),
+        sym (ap (λ (k : ℕ). k % 256) q₂ ∙ low c d hc),
+        sym (ap (λ (k : ℕ). k % 256) q₃ ∙ mod-eq-of-lt hd),
+      )
 
 -- Well formed bytes are the tables that they say
 
@@ -230,22 +234,26 @@ module _ (bs : List ℕ) (byte : (i : ℕ) → getD bs i 0 < 256) where
   pub stands-read : wellFormed bs ≡ true → Stands (fromBytes bs) bs
   unfolding Region Words fromBytes
   stands-read wf =
-      let state : (p : ℕ) → p < processLimit → stateOf (fromBytes bs) p ≡ byteState (getD bs (statesAt + p) 0) = λ p h. ap (λ (x : Process). x .state) (process-is bs p h) in
-      let count : (s : ℕ) → s < semaphoreLimit → countOf (fromBytes bs) s ≡ toZ w32 (wordAt bs s) = λ s h. ap (λ (x : Semaphore). x .count) (semaphore-is bs s h) in
-      record { held = record { slots = processes-long bs
-                             ; entries = semaphores-long bs
-                             ; places = order-long bs
-                             ; waits = λ p h. rw (state p h) (state-back (getD bs (statesAt + p) 0) (formed-state bs wf p h) .1)
-                             ; counts = λ s h. rw (count s h) (toZ-fits w32 (wordAt bs s) (record { fits = word-small s }))
-                             ; row = λ i h. rw (place-is bs i h) (formed-place bs wf i h) }
-             ; long = formed-long bs wf
-             ; states = λ p h. sym (ap stateByte (state p h) ∙ state-back (getD bs (statesAt + p) 0) (formed-state bs wf p h) .0)
-             ; priorities = λ p h. sym (ap (λ (x : Process). x .priority) (process-is bs p h))
-             ; used = λ s h. sym (ap (λ (x : Semaphore). usedByte (x .used)) (semaphore-is bs s h) ∙ used-back (getD bs (usedAt + s) 0) (formed-flag bs wf s h))
-             ; counts = λ s h. subst (λ (n : ℕ). Word (countsAt + s * 4) n bs) (sym (ap (ofZ w32) (count s h) ∙ ofZ-toZ w32 (wordAt bs s) (record { fits = word-small s }))) (word-is s)
-             ; order = λ i h. sym (place-is bs i h)
-             ; nextSemaphore = refl
-             ; nextProcess = refl }
+      let state : (p : ℕ) → p < processLimit → stateOf (fromBytes bs) p ≡ byteState (getD bs (statesAt + p) 0) = λ p h. ap (λ (x : Process). x .state) (process-said bs p h) in
+      let count : (s : ℕ) → s < semaphoreLimit → countOf (fromBytes bs) s ≡ toZ w32 (wordAt bs s) = λ s h. ap (λ (x : Semaphore). x .count) (semaphore-said bs s h) in
+      record {
+        held = record {
+          slots = processes-long bs;
+          entries = semaphores-long bs;
+          places = order-long bs;
+          waits = λ p h. rw (state p h) (state-back (getD bs (statesAt + p) 0) (formed-state bs wf p h) .1);
+          counts = λ s h. rw (count s h) (toZ-fits w32 (wordAt bs s) (record { fits = word-small s }));
+          row = λ i h. rw (place-said bs i h) (formed-place bs wf i h);
+        };
+        long = formed-long bs wf;
+        states = λ p h. sym (ap stateByte (state p h) ∙ state-back (getD bs (statesAt + p) 0) (formed-state bs wf p h) .0);
+        priorities = λ p h. sym (ap (λ (x : Process). x .priority) (process-said bs p h));
+        used = λ s h. sym (ap (λ (x : Semaphore). usedByte (x .used)) (semaphore-said bs s h) ∙ used-back (getD bs (usedAt + s) 0) (formed-flag bs wf s h));
+        counts = λ s h. subst (λ (n : ℕ). Word (countsAt + s * 4) n bs) (sym (ap (ofZ w32) (count s h) ∙ ofZ-toZ w32 (wordAt bs s) (record { fits = word-small s }))) (word-is s);
+        order = λ i h. sym (place-said bs i h);
+        nextSemaphore = refl;
+        nextProcess = refl;
+      }
 
   -- a round trip from bytes
   pub bytes-back : wellFormed bs ≡ true → toBytes (fromBytes bs) ≡ bs

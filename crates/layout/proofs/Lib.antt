@@ -3,3 +3,4 @@ pub mod Regions
 pub mod Writers
 pub mod Readers
 pub mod Image
+pub mod BegunLaws

@@ -20,10 +20,12 @@ module _ (bs : List ℕ) (j v : ℕ) where
 
   aside-word : (k n : ℕ) → ((i : ℕ) → i < 4 → k + i ≡ j → ⊥) → Word k n bs → Word k n (set bs j v)
   aside-word k n away w =
-      record { b0 = aside-one k _ (λ e. away 0 (omega arith) (omega arith)) (w .b0)
-             ; b1 = aside-one (k + 1) _ (away 1 (omega arith)) (w .b1)
-             ; b2 = aside-one (k + 2) _ (away 2 (omega arith)) (w .b2)
-             ; b3 = aside-one (k + 3) _ (away 3 (omega arith)) (w .b3) }
+      record {
+        b0 = aside-one k _ (λ e. away 0 (omega arith) (omega arith)) (w .b0);
+        b1 = aside-one (k + 1) _ (away 1 (omega arith)) (w .b1);
+        b2 = aside-one (k + 2) _ (away 2 (omega arith)) (w .b2);
+        b3 = aside-one (k + 3) _ (away 3 (omega arith)) (w .b3);
+      }
 
   pub aside-words : (at n : ℕ) (f : ℕ → ℕ) → ((i k : ℕ) → i < n → k < 4 → at + i * 4 + k ≡ j → ⊥) → Words at n f bs → Words at n f (set bs j v)
   unfolding Words
@@ -80,10 +82,12 @@ module _ (bs : List ℕ) (k n : ℕ) where
       let l1 = length-set bs k (n % 256) in
       let l2 = length-set one (k + 1) (n / 256 % 256) in
       let l3 = length-set two (k + 2) (n / 65536 % 256) in
-      record { b0 = getD-set-other three (k + 3) k _ 0 (λ e. omega arith) ∙ getD-set-other two (k + 2) k _ 0 (λ e. omega arith) ∙ getD-set-other one (k + 1) k _ 0 (λ e. omega arith) ∙ getD-set-same bs k _ 0 (omega arith)
-             ; b1 = getD-set-other three (k + 3) (k + 1) _ 0 (λ e. omega arith) ∙ getD-set-other two (k + 2) (k + 1) _ 0 (λ e. omega arith) ∙ getD-set-same one (k + 1) _ 0 (omega arith)
-             ; b2 = getD-set-other three (k + 3) (k + 2) _ 0 (λ e. omega arith) ∙ getD-set-same two (k + 2) _ 0 (omega arith)
-             ; b3 = getD-set-same three (k + 3) _ 0 (omega arith) }
+      record {
+        b0 = getD-set-other three (k + 3) k _ 0 (λ e. omega arith) ∙ getD-set-other two (k + 2) k _ 0 (λ e. omega arith) ∙ getD-set-other one (k + 1) k _ 0 (λ e. omega arith) ∙ getD-set-same bs k _ 0 (omega arith);
+        b1 = getD-set-other three (k + 3) (k + 1) _ 0 (λ e. omega arith) ∙ getD-set-other two (k + 2) (k + 1) _ 0 (λ e. omega arith) ∙ getD-set-same one (k + 1) _ 0 (omega arith);
+        b2 = getD-set-other three (k + 3) (k + 2) _ 0 (λ e. omega arith) ∙ getD-set-same two (k + 2) _ 0 (omega arith);
+        b3 = getD-set-same three (k + 3) _ 0 (omega arith);
+      }
 
 -- One entry of a table after a store
 

@@ -26,21 +26,25 @@ use Rattle.layout.proofs.Regions.{aside, aside-one, aside-words, aside4
 
 held-process : (t : Tables) → Held t → (p : ℕ) (x : Process) → p < processLimit → Named (x .state) → Held (withProcess t p x)
 held-process t h p x hp named =
-    record { slots = length-set (t .processes) p x ∙ h .slots
-           ; entries = h .entries
-           ; places = h .places
-           ; waits = λ k hk. entry (t .processes) p x freeSlot (omega (arith, h .slots)) (λ (z : Process). Named (z .state)) named k (h .waits k hk)
-           ; counts = h .counts
-           ; row = h .row }
+    record {
+      slots = length-set (t .processes) p x ∙ h .slots;
+      entries = h .entries;
+      places = h .places;
+      waits = λ k hk. entry (t .processes) p x freeSlot (omega (arith, h .slots)) (λ (z : Process). Named (z .state)) named k (h .waits k hk);
+      counts = h .counts;
+      row = h .row;
+    }
 
 held-semaphore : (t : Tables) → Held t → (s : ℕ) (x : Semaphore) → s < semaphoreLimit → SFits w32 (x .count) → Held (withSemaphore t s x)
 held-semaphore t h s x hs fits =
-    record { slots = h .slots
-           ; entries = length-set (t .semaphores) s x ∙ h .entries
-           ; places = h .places
-           ; waits = h .waits
-           ; counts = λ k hk. entry (t .semaphores) s x freeSemaphore (omega (arith, h .entries)) (λ (z : Semaphore). SFits w32 (z .count)) fits k (h .counts k hk)
-           ; row = h .row }
+    record {
+      slots = h .slots;
+      entries = length-set (t .semaphores) s x ∙ h .entries;
+      places = h .places;
+      waits = h .waits;
+      counts = λ k hk. entry (t .semaphores) s x freeSemaphore (omega (arith, h .entries)) (λ (z : Semaphore). SFits w32 (z .count)) fits k (h .counts k hk);
+      row = h .row;
+    }
 
 -- Each field
 
@@ -51,18 +55,20 @@ module _ (t : Tables) (bs : List ℕ) (st : Stands t bs) where
       let hp : p < length (t .processes) = omega (arith, st .held .slots) in
       let l = st .long in
       let v : ℕ = stateByte s in
-      record { held = held-process t (st .held) p x h named
-             ; long = length-set bs p v ∙ l
-             ; states = inside bs statesAt processLimit (λ k. stateByte (stateOf t k)) (λ k. stateByte (stateOf (withState t p s) k)) p p v (omega arith) h (omega arith)
-                 (here (t .processes) p x freeSlot hp (λ (z : Process). stateByte (z .state)))
-                 (elsewhere (t .processes) p x freeSlot hp (λ (z : Process). stateByte (z .state))) (st .states)
-             ; priorities = like prioritiesAt processLimit (priorityOf t) (priorityOf (withState t p s)) (set bs p v) (kept (t .processes) p x freeSlot hp (λ (z : Process). z .priority) refl)
-                 (aside bs p v prioritiesAt processLimit (priorityOf t) (λ i hi e. omega arith) (st .priorities))
-             ; used = aside bs p v usedAt semaphoreLimit _ (λ i hi e. omega arith) (st .used)
-             ; counts = aside-words bs p v countsAt semaphoreLimit _ (λ i k hi hk e. omega arith) (st .counts)
-             ; order = aside bs p v orderAt processLimit _ (λ i hi e. omega arith) (st .order)
-             ; nextSemaphore = aside-one bs p v nextSemaphoreAt _ (λ e. omega arith) (st .nextSemaphore)
-             ; nextProcess = aside-one bs p v nextProcessAt _ (λ e. omega arith) (st .nextProcess) }
+      record {
+        held = held-process t (st .held) p x h named;
+        long = length-set bs p v ∙ l;
+        states = inside bs statesAt processLimit (λ k. stateByte (stateOf t k)) (λ k. stateByte (stateOf (withState t p s) k)) p p v (omega arith) h (omega arith)
+            (here (t .processes) p x freeSlot hp (λ (z : Process). stateByte (z .state)))
+            (elsewhere (t .processes) p x freeSlot hp (λ (z : Process). stateByte (z .state))) (st .states);
+        priorities = like prioritiesAt processLimit (priorityOf t) (priorityOf (withState t p s)) (set bs p v) (kept (t .processes) p x freeSlot hp (λ (z : Process). z .priority) refl)
+            (aside bs p v prioritiesAt processLimit (priorityOf t) (λ i hi e. omega arith) (st .priorities));
+        used = aside bs p v usedAt semaphoreLimit _ (λ i hi e. omega arith) (st .used);
+        counts = aside-words bs p v countsAt semaphoreLimit _ (λ i k hi hk e. omega arith) (st .counts);
+        order = aside bs p v orderAt processLimit _ (λ i hi e. omega arith) (st .order);
+        nextSemaphore = aside-one bs p v nextSemaphoreAt _ (λ e. omega arith) (st .nextSemaphore);
+        nextProcess = aside-one bs p v nextProcessAt _ (λ e. omega arith) (st .nextProcess);
+      }
 
   put-priority : (p v : ℕ) → p < processLimit → Stands (withPriority t p v) (set bs (prioritiesAt + p) v)
   put-priority p v h =
@@ -70,18 +76,20 @@ module _ (t : Tables) (bs : List ℕ) (st : Stands t bs) where
       let hp : p < length (t .processes) = omega (arith, st .held .slots) in
       let l = st .long in
       let j : ℕ = prioritiesAt + p in
-      record { held = held-process t (st .held) p x h (st .held .waits p h)
-             ; long = length-set bs j v ∙ l
-             ; states = like statesAt processLimit (λ k. stateByte (stateOf t k)) (λ k. stateByte (stateOf (withPriority t p v) k)) (set bs j v) (kept (t .processes) p x freeSlot hp (λ (z : Process). stateByte (z .state)) refl)
-                 (aside bs j v statesAt processLimit (λ k. stateByte (stateOf t k)) (λ i hi e. omega arith) (st .states))
-             ; priorities = inside bs prioritiesAt processLimit (priorityOf t) (priorityOf (withPriority t p v)) p j v (omega arith) h refl
-                 (here (t .processes) p x freeSlot hp (λ (z : Process). z .priority))
-                 (elsewhere (t .processes) p x freeSlot hp (λ (z : Process). z .priority)) (st .priorities)
-             ; used = aside bs j v usedAt semaphoreLimit _ (λ i hi e. omega arith) (st .used)
-             ; counts = aside-words bs j v countsAt semaphoreLimit _ (λ i k hi hk e. omega arith) (st .counts)
-             ; order = aside bs j v orderAt processLimit _ (λ i hi e. omega arith) (st .order)
-             ; nextSemaphore = aside-one bs j v nextSemaphoreAt _ (λ e. omega arith) (st .nextSemaphore)
-             ; nextProcess = aside-one bs j v nextProcessAt _ (λ e. omega arith) (st .nextProcess) }
+      record {
+        held = held-process t (st .held) p x h (st .held .waits p h);
+        long = length-set bs j v ∙ l;
+        states = like statesAt processLimit (λ k. stateByte (stateOf t k)) (λ k. stateByte (stateOf (withPriority t p v) k)) (set bs j v) (kept (t .processes) p x freeSlot hp (λ (z : Process). stateByte (z .state)) refl)
+            (aside bs j v statesAt processLimit (λ k. stateByte (stateOf t k)) (λ i hi e. omega arith) (st .states));
+        priorities = inside bs prioritiesAt processLimit (priorityOf t) (priorityOf (withPriority t p v)) p j v (omega arith) h refl
+            (here (t .processes) p x freeSlot hp (λ (z : Process). z .priority))
+            (elsewhere (t .processes) p x freeSlot hp (λ (z : Process). z .priority)) (st .priorities);
+        used = aside bs j v usedAt semaphoreLimit _ (λ i hi e. omega arith) (st .used);
+        counts = aside-words bs j v countsAt semaphoreLimit _ (λ i k hi hk e. omega arith) (st .counts);
+        order = aside bs j v orderAt processLimit _ (λ i hi e. omega arith) (st .order);
+        nextSemaphore = aside-one bs j v nextSemaphoreAt _ (λ e. omega arith) (st .nextSemaphore);
+        nextProcess = aside-one bs j v nextProcessAt _ (λ e. omega arith) (st .nextProcess);
+      }
 
   put-used : (s : ℕ) (u : Bool) → s < semaphoreLimit → Stands (withUsed t s u) (set bs (usedAt + s) (usedByte u))
   unfolding Words
@@ -91,18 +99,20 @@ module _ (t : Tables) (bs : List ℕ) (st : Stands t bs) where
       let l = st .long in
       let j : ℕ = usedAt + s in
       let v : ℕ = usedByte u in
-      record { held = held-semaphore t (st .held) s x h (st .held .counts s h)
-             ; long = length-set bs j v ∙ l
-             ; states = aside bs j v statesAt processLimit _ (λ i hi e. omega arith) (st .states)
-             ; priorities = aside bs j v prioritiesAt processLimit _ (λ i hi e. omega arith) (st .priorities)
-             ; used = inside bs usedAt semaphoreLimit (λ k. usedByte (isUsed t k)) (λ k. usedByte (isUsed (withUsed t s u) k)) s j v (omega arith) h refl
-                 (here (t .semaphores) s x freeSemaphore hs (λ (z : Semaphore). usedByte (z .used)))
-                 (elsewhere (t .semaphores) s x freeSemaphore hs (λ (z : Semaphore). usedByte (z .used))) (st .used)
-             ; counts = λ i hi. subst (λ (z : ℕ). Word (countsAt + i * 4) z (set bs j v)) (kept (t .semaphores) s x freeSemaphore hs (λ (z : Semaphore). ofZ w32 (z .count)) refl i)
-                 (aside-words bs j v countsAt semaphoreLimit (λ k. ofZ w32 (countOf t k)) (λ i k hi hk e. omega arith) (st .counts) i hi)
-             ; order = aside bs j v orderAt processLimit _ (λ i hi e. omega arith) (st .order)
-             ; nextSemaphore = aside-one bs j v nextSemaphoreAt _ (λ e. omega arith) (st .nextSemaphore)
-             ; nextProcess = aside-one bs j v nextProcessAt _ (λ e. omega arith) (st .nextProcess) }
+      record {
+        held = held-semaphore t (st .held) s x h (st .held .counts s h);
+        long = length-set bs j v ∙ l;
+        states = aside bs j v statesAt processLimit _ (λ i hi e. omega arith) (st .states);
+        priorities = aside bs j v prioritiesAt processLimit _ (λ i hi e. omega arith) (st .priorities);
+        used = inside bs usedAt semaphoreLimit (λ k. usedByte (isUsed t k)) (λ k. usedByte (isUsed (withUsed t s u) k)) s j v (omega arith) h refl
+            (here (t .semaphores) s x freeSemaphore hs (λ (z : Semaphore). usedByte (z .used)))
+            (elsewhere (t .semaphores) s x freeSemaphore hs (λ (z : Semaphore). usedByte (z .used))) (st .used);
+        counts = λ i hi. subst (λ (z : ℕ). Word (countsAt + i * 4) z (set bs j v)) (kept (t .semaphores) s x freeSemaphore hs (λ (z : Semaphore). ofZ w32 (z .count)) refl i)
+            (aside-words bs j v countsAt semaphoreLimit (λ k. ofZ w32 (countOf t k)) (λ i k hi hk e. omega arith) (st .counts) i hi);
+        order = aside bs j v orderAt processLimit _ (λ i hi e. omega arith) (st .order);
+        nextSemaphore = aside-one bs j v nextSemaphoreAt _ (λ e. omega arith) (st .nextSemaphore);
+        nextProcess = aside-one bs j v nextProcessAt _ (λ e. omega arith) (st .nextProcess);
+      }
 
   put-count : (s : ℕ) (c : ℤ) → s < semaphoreLimit → SFits w32 c → Stands (withCount t s c) (store4 bs (countsAt + s * 4) (ofZ w32 c))
   unfolding Words
@@ -112,42 +122,48 @@ module _ (t : Tables) (bs : List ℕ) (st : Stands t bs) where
       let x : Semaphore = record { used = isUsed t s; count = c } in
       let hs : s < length (t .semaphores) = omega (arith, st .held .entries) in
       let l = st .long in
-      record { held = held-semaphore t (st .held) s x h f
-             ; long = long4 bs k n ∙ l
-             ; states = aside4 bs k n statesAt processLimit _ (λ i d hi hd e. omega arith) (st .states)
-             ; priorities = aside4 bs k n prioritiesAt processLimit _ (λ i d hi hd e. omega arith) (st .priorities)
-             ; used = like usedAt semaphoreLimit (λ i. usedByte (isUsed t i)) (λ i. usedByte (isUsed (withCount t s c) i)) (store4 bs k n) (kept (t .semaphores) s x freeSemaphore hs (λ (z : Semaphore). usedByte (z .used)) refl)
-                 (aside4 bs k n usedAt semaphoreLimit (λ i. usedByte (isUsed t i)) (λ i d hi hd e. omega arith) (st .used))
-             ; counts = λ i hi. either i s
-                 (λ q. subst (λ (z : ℕ). Word (countsAt + z * 4) (ofZ w32 (countOf (withCount t s c) z)) (store4 bs k n)) (sym q)
-                   (subst (λ (z : ℕ). Word k z (store4 bs k n)) (here (t .semaphores) s x freeSemaphore hs (λ (z : Semaphore). ofZ w32 (z .count))) (word-here bs k n (omega arith))))
-                 (λ q. subst (λ (z : ℕ). Word (countsAt + i * 4) z (store4 bs k n)) (elsewhere (t .semaphores) s x freeSemaphore hs (λ (z : Semaphore). ofZ w32 (z .count)) i q)
-                   (aside4-word bs k n (countsAt + i * 4) (ofZ w32 (countOf t i)) (λ a d ha hd e. q (omega arith)) (st .counts i hi)))
-             ; order = aside4 bs k n orderAt processLimit _ (λ i d hi hd e. omega arith) (st .order)
-             ; nextSemaphore = aside4-one bs k n nextSemaphoreAt _ (λ d hd e. omega arith) (st .nextSemaphore)
-             ; nextProcess = aside4-one bs k n nextProcessAt _ (λ d hd e. omega arith) (st .nextProcess) }
+      record {
+        held = held-semaphore t (st .held) s x h f;
+        long = long4 bs k n ∙ l;
+        states = aside4 bs k n statesAt processLimit _ (λ i d hi hd e. omega arith) (st .states);
+        priorities = aside4 bs k n prioritiesAt processLimit _ (λ i d hi hd e. omega arith) (st .priorities);
+        used = like usedAt semaphoreLimit (λ i. usedByte (isUsed t i)) (λ i. usedByte (isUsed (withCount t s c) i)) (store4 bs k n) (kept (t .semaphores) s x freeSemaphore hs (λ (z : Semaphore). usedByte (z .used)) refl)
+            (aside4 bs k n usedAt semaphoreLimit (λ i. usedByte (isUsed t i)) (λ i d hi hd e. omega arith) (st .used));
+        counts = λ i hi. either i s
+            (λ q. subst (λ (z : ℕ). Word (countsAt + z * 4) (ofZ w32 (countOf (withCount t s c) z)) (store4 bs k n)) (sym q)
+            (subst (λ (z : ℕ). Word k z (store4 bs k n)) (here (t .semaphores) s x freeSemaphore hs (λ (z : Semaphore). ofZ w32 (z .count))) (word-here bs k n (omega arith))))
+            (λ q. subst (λ (z : ℕ). Word (countsAt + i * 4) z (store4 bs k n)) (elsewhere (t .semaphores) s x freeSemaphore hs (λ (z : Semaphore). ofZ w32 (z .count)) i q)
+            (aside4-word bs k n (countsAt + i * 4) (ofZ w32 (countOf t i)) (λ a d ha hd e. q (omega arith)) (st .counts i hi)));
+        order = aside4 bs k n orderAt processLimit _ (λ i d hi hd e. omega arith) (st .order);
+        nextSemaphore = aside4-one bs k n nextSemaphoreAt _ (λ d hd e. omega arith) (st .nextSemaphore);
+        nextProcess = aside4-one bs k n nextProcessAt _ (λ d hd e. omega arith) (st .nextProcess);
+      }
 
   pub put-place : (i q : ℕ) → i < processLimit → q < processLimit → Stands (withOrder t (set (t .order) i q)) (set bs (orderAt + i) q)
   put-place i q h hq =
       let ho : i < length (t .order) = omega (arith, st .held .places) in
       let l = st .long in
       let j : ℕ = orderAt + i in
-      record { held = record { slots = st .held .slots
-                             ; entries = st .held .entries
-                             ; places = length-set (t .order) i q ∙ st .held .places
-                             ; waits = st .held .waits
-                             ; counts = st .held .counts
-                             ; row = λ k hk. entry (t .order) i q 0 ho (λ (z : ℕ). z < processLimit) hq k (st .held .row k hk) }
-             ; long = length-set bs j q ∙ l
-             ; states = aside bs j q statesAt processLimit _ (λ k hk e. omega arith) (st .states)
-             ; priorities = aside bs j q prioritiesAt processLimit _ (λ k hk e. omega arith) (st .priorities)
-             ; used = aside bs j q usedAt semaphoreLimit _ (λ k hk e. omega arith) (st .used)
-             ; counts = aside-words bs j q countsAt semaphoreLimit _ (λ k m hk hm e. omega arith) (st .counts)
-             ; order = inside bs orderAt processLimit (λ k. getD (t .order) k 0) (λ k. getD (set (t .order) i q) k 0) i j q (omega arith) h refl
-                 (here (t .order) i q 0 ho (λ (z : ℕ). z))
-                 (elsewhere (t .order) i q 0 ho (λ (z : ℕ). z)) (st .order)
-             ; nextSemaphore = aside-one bs j q nextSemaphoreAt _ (λ e. omega arith) (st .nextSemaphore)
-             ; nextProcess = aside-one bs j q nextProcessAt _ (λ e. omega arith) (st .nextProcess) }
+      record {
+        held = record {
+          slots = st .held .slots;
+          entries = st .held .entries;
+          places = length-set (t .order) i q ∙ st .held .places;
+          waits = st .held .waits;
+          counts = st .held .counts;
+          row = λ k hk. entry (t .order) i q 0 ho (λ (z : ℕ). z < processLimit) hq k (st .held .row k hk);
+        };
+        long = length-set bs j q ∙ l;
+        states = aside bs j q statesAt processLimit _ (λ k hk e. omega arith) (st .states);
+        priorities = aside bs j q prioritiesAt processLimit _ (λ k hk e. omega arith) (st .priorities);
+        used = aside bs j q usedAt semaphoreLimit _ (λ k hk e. omega arith) (st .used);
+        counts = aside-words bs j q countsAt semaphoreLimit _ (λ k m hk hm e. omega arith) (st .counts);
+        order = inside bs orderAt processLimit (λ k. getD (t .order) k 0) (λ k. getD (set (t .order) i q) k 0) i j q (omega arith) h refl
+            (here (t .order) i q 0 ho (λ (z : ℕ). z))
+            (elsewhere (t .order) i q 0 ho (λ (z : ℕ). z)) (st .order);
+        nextSemaphore = aside-one bs j q nextSemaphoreAt _ (λ e. omega arith) (st .nextSemaphore);
+        nextProcess = aside-one bs j q nextProcessAt _ (λ e. omega arith) (st .nextProcess);
+      }
 
   -- a byte behind the row: one of the cursors
   put-cursor : (t′ : Tables) (j v : ℕ) → nextSemaphoreAt ≤ j → Held t′
@@ -155,15 +171,17 @@ module _ (t : Tables) (bs : List ℕ) (st : Stands t bs) where
       → getD (set bs j v) nextSemaphoreAt 0 ≡ t′ .«next_semaphore» → getD (set bs j v) nextProcessAt 0 ≡ t′ .«next_process» → Stands t′ (set bs j v)
   put-cursor t′ j v h held ep es eo ns np =
       let l = st .long in
-      record { held = held
-             ; long = length-set bs j v ∙ l
-             ; states = rw ep (aside bs j v statesAt processLimit _ (λ i hi e. omega arith) (st .states))
-             ; priorities = rw ep (aside bs j v prioritiesAt processLimit _ (λ i hi e. omega arith) (st .priorities))
-             ; used = rw es (aside bs j v usedAt semaphoreLimit _ (λ i hi e. omega arith) (st .used))
-             ; counts = rw es (aside-words bs j v countsAt semaphoreLimit _ (λ i k hi hk e. omega arith) (st .counts))
-             ; order = rw eo (aside bs j v orderAt processLimit _ (λ i hi e. omega arith) (st .order))
-             ; nextSemaphore = ns
-             ; nextProcess = np }
+      record {
+        held = held;
+        long = length-set bs j v ∙ l;
+        states = rw ep (aside bs j v statesAt processLimit _ (λ i hi e. omega arith) (st .states));
+        priorities = rw ep (aside bs j v prioritiesAt processLimit _ (λ i hi e. omega arith) (st .priorities));
+        used = rw es (aside bs j v usedAt semaphoreLimit _ (λ i hi e. omega arith) (st .used));
+        counts = rw es (aside-words bs j v countsAt semaphoreLimit _ (λ i k hi hk e. omega arith) (st .counts));
+        order = rw eo (aside bs j v orderAt processLimit _ (λ i hi e. omega arith) (st .order));
+        nextSemaphore = ns;
+        nextProcess = np;
+      }
 
 -- As writers
 
@@ -179,8 +197,8 @@ module _ (bs : List ℕ) where
       let hp : p < length (t .processes) = omega (arith, st .held .slots) in
       let b : List ℕ = set (set bs p (stateByte (x .state))) (prioritiesAt + p) (x .priority) in
       subst (λ (z : List Process). Stands (withProcesses t z) b) (set-set (t .processes) p y x)
-        (subst (λ (z : State). Stands (withProcess (withState t p (x .state)) p (record { state = z; priority = x .priority })) b) (sym (here (t .processes) p y freeSlot hp (λ (z : Process). z .state)))
-        (put-priority (withState t p (x .state)) (set bs p (stateByte (x .state))) (put-state t bs st p (x .state) h named) p (x .priority) h))
+      (subst (λ (z : State). Stands (withProcess (withState t p (x .state)) p (record { state = z; priority = x .priority })) b) (sym (here (t .processes) p y freeSlot hp (λ (z : Process). z .state)))
+      (put-priority (withState t p (x .state)) (set bs p (stateByte (x .state))) (put-state t bs st p (x .state) h named) p (x .priority) h))
 
   pub used-turns : (s : ℕ) (u : Bool) → s < semaphoreLimit → Turns (λ t. withUsed t s u) bs (set bs (usedAt + s) (usedByte u))
   unfolding Turns
@@ -219,5 +237,5 @@ semaphore-turns s x a b c h f g t st =
     let hs : s < length (t .semaphores) = omega (arith, st .held .entries) in
     let y : Semaphore = record { used = x .used; count = countOf t s } in
     subst (λ (z : List Semaphore). Stands (withSemaphores t z) c) (set-set (t .semaphores) s y x)
-      (subst (λ (z : Bool). Stands (withSemaphore (withUsed t s (x .used)) s (record { used = z; count = x .count })) c) (sym (here (t .semaphores) s y freeSemaphore hs (λ (z : Semaphore). z .used)))
-      (g (withUsed t s (x .used)) (f t st)))
+    (subst (λ (z : Bool). Stands (withSemaphore (withUsed t s (x .used)) s (record { used = z; count = x .count })) c) (sym (here (t .semaphores) s y freeSemaphore hs (λ (z : Semaphore). z .used)))
+    (g (withUsed t s (x .used)) (f t st)))

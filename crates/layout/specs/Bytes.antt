@@ -82,11 +82,13 @@ placeAt bs i = getD bs (orderAt + i) 0
 
 unfoldable pub fromBytes : List ℕ → Tables
 fromBytes bs =
-    record { processes = listed 0 processLimit (processAt bs)
-           ; semaphores = listed 0 semaphoreLimit (semaphoreAt bs)
-           ; order = listed 0 processLimit (placeAt bs)
-           ; «next_semaphore» = getD bs nextSemaphoreAt 0
-           ; «next_process» = getD bs nextProcessAt 0 }
+    record {
+      processes = listed 0 processLimit (processAt bs);
+      semaphores = listed 0 semaphoreLimit (semaphoreAt bs);
+      order = listed 0 processLimit (placeAt bs);
+      «next_semaphore» = getD bs nextSemaphoreAt 0;
+      «next_process» = getD bs nextProcessAt 0;
+    }
 
 -- each state byte names a state, each used flag is 0 or 1, each place of the row names a process, and nothing is missing or over
 abbrev pub stateNamed : List ℕ → ℕ → Bool

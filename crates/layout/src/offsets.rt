@@ -4,12 +4,19 @@ ghost use mathlib.Core.Path.{_≡_};
 ghost use Rattle.layout.specs.Offsets.{statesAt, prioritiesAt, usedAt, countsAt, orderAt, nextSemaphoreAt, nextProcessAt, size};
 
 pub const STATES: usize = 0;
+
 pub const PRIORITIES: usize = STATES + Tables::PROCESSES;
+
 pub const USED: usize = PRIORITIES + Tables::PROCESSES;
+
 pub const COUNTS: usize = USED + Tables::SEMAPHORES;
+
 pub const ORDER: usize = COUNTS + 4 * Tables::SEMAPHORES;
+
 pub const NEXT_SEMAPHORE: usize = ORDER + Tables::PROCESSES;
+
 pub const NEXT_PROCESS: usize = NEXT_SEMAPHORE + 1;
+
 pub const SIZE: usize = NEXT_PROCESS + 1;
 
 pub struct Starts {

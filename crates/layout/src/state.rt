@@ -6,9 +6,13 @@ ghost use Rattle.layout.specs.Bytes.{stateByte, byteState};
 
 // The byte of waiting on semaphore 0, and the bytes of the other states.
 pub const FREE: u8 = 0;
+
 pub const CURRENT: u8 = 1;
+
 pub const READY: u8 = 2;
+
 pub const SUSPENDED: u8 = 3;
+
 pub const WAITING: u8 = 4;
 
 pub fn state_byte(state: State) -> u8

@@ -1,0 +1,34 @@
+use borrow.Author.Needs.{needs}
+use Rattle.layout.specs.Bytes.{fromBytes}
+use Rattle.layout.proofs.decode.decode.Statement.{statement}
+use Rattle.layout.proofs.decode.decode.Tie as tie
+
+processes-requires : tie.Need-processes-requires
+processes-requires c κs = search needs
+
+semaphores-requires : tie.Need-semaphores-requires
+semaphores-requires c κs = search needs
+
+order-requires : tie.Need-order-requires
+order-requires c κs = search needs
+
+shared-slice-read-t6 : tie.Need-shared-slice-read-t6
+shared-slice-read-t6 c = search needs
+
+shared-slice-read-t8 : tie.Need-shared-slice-read-t8
+shared-slice-read-t8 c = search needs
+
+returns : tie.Need-returns
+unfolding fromBytes
+returns c = rw (c .before .before .before .before .processes .ensures, c .before .before .before .semaphores .ensures, c .before .before .order .ensures)
+
+pub decode-spec : {M : Type 1} → statement M
+decode-spec =
+    tie.close
+    (tie.spec
+    processes-requires
+    semaphores-requires
+    order-requires
+    shared-slice-read-t6
+    shared-slice-read-t8
+    returns)

@@ -1,0 +1,78 @@
+use Prim.Native.Nat.{_+_, _-_, _≤_}
+use native.Mathlib.Omega.{arith}
+use mathlib.Core.List.{List}
+use mathlib.Core.Path.{_∙_, _≡_, ap, refl, sym}
+use lib.ListN.{getD, length, length-set}
+use borrow.Author.Needs.{needs}
+use Rattle.tables.specs.Limits.{processLimit}
+use Rattle.tables.specs.Readers.{freeSlot}
+use Rattle.tables.specs.declared.Process.{Process}
+use Rattle.tables.specs.declared.Tables.{Tables}
+use Rattle.layout.specs.Begun.{Begun}
+use Rattle.layout.specs.Offsets.{prioritiesAt, size, usedAt}
+use Rattle.layout.proofs.encode.put_priorities.Statement.{statement}
+use Rattle.layout.proofs.BegunLaws.{begun-at, begun-next, unmapped}
+use Rattle.layout.proofs.Image.{priority-byte}
+use Rattle.layout.proofs.encode.put_priorities.Tie as tie
+
+abbrev Inv-loop : tie.InvT-loop
+Inv-loop bytes₀ processes i₀ bytes i = (i ≤ processLimit) × (length bytes ≡ size) × ((t : Tables) → t .processes ≡ processes → Begun t prioritiesAt bytes₀ → Begun t (prioritiesAt + i) bytes) × (length processes ≡ processLimit)
+
+abbrev μ-loop : tie.MeasureT-loop
+μ-loop bytes₀ processes i₀ bytes i = processLimit - i
+
+loop-holds : tie.Need-loop-holds Inv-loop μ-loop
+loop-holds c = (search needs, c .before .pre .long, (λ t e b. b), search (needs, unmapped))
+
+mul-x : tie.Need-mul-x Inv-loop μ-loop
+mul-x c = search needs
+
+array-copy-out-x : tie.Need-array-copy-out-x Inv-loop μ-loop
+array-copy-out-x c = search needs
+
+add-bytes : tie.Need-add-bytes Inv-loop μ-loop
+add-bytes c = search needs
+
+slice-write-bytes : tie.Need-slice-write-bytes Inv-loop μ-loop
+slice-write-bytes c = search needs
+
+add-i : tie.Need-add-i Inv-loop μ-loop
+add-i c = search needs
+
+loop-less : tie.Need-loop-less Inv-loop μ-loop
+loop-less c = search needs
+
+loop-again : tie.Need-loop-again Inv-loop μ-loop
+loop-again c =
+    let i = c .before .before .loop .i in (
+      search needs,
+      simp length-set (c .before .before .loop .inv .1),
+      (λ t e b. begun-at t (prioritiesAt + i + 1) (prioritiesAt + (i + 1)) _ (omega arith) (begun-next t (prioritiesAt + i) (c .before .before .loop .bytes) _ (c .before .before .loop .inv .2 t e b) (omega arith)
+          (ap (λ (xs : List Process). getD xs i freeSlot .priority) (sym e) ∙ sym (priority-byte t i (omega arith))))),
+      search needs,
+    )
+
+same-length : tie.Need-same-length Inv-loop μ-loop
+same-length c = search needs
+
+returns : tie.Need-returns Inv-loop μ-loop
+returns c =
+    let k : prioritiesAt + c .before .loop .i ≡ usedAt = omega arith in
+    begun-at _ _ _ _ k (c .before .loop .inv .2 _ refl (c .before .before .before .pre))
+
+pub put-priorities-spec : {M : Type 1} → statement M
+put-priorities-spec =
+    tie.close
+    (tie.spec
+    Inv-loop
+    μ-loop
+    loop-holds
+    mul-x
+    array-copy-out-x
+    add-bytes
+    slice-write-bytes
+    add-i
+    loop-less
+    loop-again
+    same-length
+    returns)
