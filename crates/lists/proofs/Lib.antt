@@ -2,3 +2,4 @@ pub mod Bools
 pub mod ListLaws
 pub mod FallingLaws
 pub mod NumberLaws
+pub mod Rows
