@@ -91,6 +91,17 @@ within-member n (x ∷ xs) p (h, hs) k = go (eqb x p) refl k (within-member n xs
     go true e k ih = rw (eqb-true x p e) at h
     go false e k ih = ih k
 
+-- what stands in a list stands in it at least once
+pub times-at : (xs : List ℕ) (i : ℕ) → i < length xs → 1 ≤ times (getD xs i 0) xs
+unfolding times
+times-at [] i h = absurd (omega arith)
+times-at (x ∷ xs) zero h = rw (eq-eqb x x refl) (omega arith)
+times-at (x ∷ xs) (suc i) h = go (eqb x (getD xs i 0)) (times-at xs i (omega arith))
+  where
+    go : (b : Bool) → 1 ≤ times (getD xs i 0) xs → 1 ≤ (if b then suc (times (getD xs i 0) xs) else times (getD xs i 0) xs)
+    go true k = omega arith
+    go false k = k
+
 times-nil : (p : ℕ) → times p [] ≡ 0
 unfolding times
 times-nil p = refl
