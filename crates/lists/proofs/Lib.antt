@@ -3,3 +3,4 @@ pub mod ListLaws
 pub mod FallingLaws
 pub mod NumberLaws
 pub mod Rows
+pub mod RoundLaws

@@ -1,0 +1,138 @@
+-- A process stops, resumes or yields: what stays sound. Assumes nothing.
+
+-- A slot is written anew, off the ready list
+
+module _ {t : Tables} (l : Laid t) (p : ℕ) (below : p < processLimit) (hz : 0 ≢ p) (y : Process) (hr : isReady (y .state) ≡ false) where
+  ready-set : readyList (withProcess t p y) ≡ without p (readyList t)
+  ready-set = line-leave t p y isReady (live-slot l p below) hr
+
+  off-p : (x : ℕ) → not (eqb x p) ≡ true → priorityOf (withProcess t p y) x ≡ priorityOf t x
+  off-p x e = ap (λ (r : Process). r .priority) (at-other t p y x (eqb-false x p (not-true (eqb x p) e)))
+
+  pub laid-set : (y .state ≡ Free → y .priority ≡ 0) → (isFree (y .state) ≡ false → (1 ≤ y .priority) × (y .priority ≤ priorityLimit)) → Laid (withProcess t p y)
+  unfolding without
+  laid-set hf hl =
+      record { slots = length-set (t .processes) p y ∙ l .slots
+             ; entries = l .entries
+             ; places = l .places
+             ; order = l .order
+             ; falling = rw ready-set (falling-ext (priorityOf t) (priorityOf (withProcess t p y)) (λ x. not (eqb x p)) off-p (readyList t) (falling-filter (priorityOf t) (λ x. not (eqb x p)) (readyList t) (l .falling)))
+             ; idle = ap (λ (r : Process). r .priority) (at-other t p y 0 hz) ∙ l .idle
+             ; free = λ x. free′ x (eqb x p) refl
+             ; live = λ x h1. live′ x h1 (eqb x p) refl
+             ; cursors = l .cursors }
+    where
+      here : process (withProcess t p y) p ≡ y
+      here = at-same t p y (live-slot l p below)
+      free′ : (x : ℕ) (b : Bool) → eqb x p ≡ b → stateOf (withProcess t p y) x ≡ Free → priorityOf (withProcess t p y) x ≡ 0
+      free′ x true e k = ap (priorityOf (withProcess t p y)) (eqb-true x p e) ∙ ap (λ (r : Process). r .priority) here ∙ hf (ap (λ (r : Process). r .state) (sym here) ∙ ap (stateOf (withProcess t p y)) (sym (eqb-true x p e)) ∙ k)
+      free′ x false e k = ap (λ (r : Process). r .priority) (at-other t p y x (eqb-false x p e)) ∙ l .free x (ap (λ (r : Process). r .state) (sym (at-other t p y x (eqb-false x p e))) ∙ k)
+      Fine : ℕ → Type 0
+      Fine n = (1 ≤ n) × (n ≤ priorityLimit)
+      live′ : (x : ℕ) → 1 ≤ x → (b : Bool) → eqb x p ≡ b → isFree (stateOf (withProcess t p y) x) ≡ false → (1 ≤ priorityOf (withProcess t p y) x) × (priorityOf (withProcess t p y) x ≤ priorityLimit)
+      live′ x h1 true e k = subst Fine (ap (λ (r : Process). r .priority) (sym here) ∙ ap (priorityOf (withProcess t p y)) (sym (eqb-true x p e))) (hl (ap (λ (r : Process). isFree (r .state)) (sym here) ∙ ap (λ (n : ℕ). isFree (stateOf (withProcess t p y) n)) (sym (eqb-true x p e)) ∙ k))
+      live′ x h1 false e k = subst Fine (ap (λ (r : Process). r .priority) (sym (at-other t p y x (eqb-false x p e)))) (l .live x h1 (ap (λ (r : Process). isFree (r .state)) (sym (at-other t p y x (eqb-false x p e))) ∙ k))
+
+  pub zero-set : Zero t → Zero (withProcess t p y)
+  zero-set z = ap (λ (r : Process). isCurrent (r .state) || isReady (r .state)) (at-other t p y 0 hz) ∙ z
+
+  -- whoever isn't current may be written anew while another runs
+  pub running-set : Running t → isCurrent (stateOf t p) ≡ false → isCurrent (y .state) ≡ false → Running (withProcess t p y)
+  unfolding firstOr
+  running-set r hc hy =
+      record { one = ap length same ∙ r .one
+             ; zero = zero-set (r .zero)
+             ; top = λ q k. top′ q k (eqb q p) refl }
+    where
+      same : currents (withProcess t p y) ≡ currents t
+      same = line-leave t p y isCurrent (live-slot l p below) hy ∙ line-absent t p isCurrent hc
+      c-current : isCurrent (stateOf t (currentOf t)) ≡ true
+      c-current = line-first t isCurrent (currentOf t) [] (current-only r)
+      c-other : currentOf t ≢ p
+      c-other e = true≢false (sym c-current ∙ ap (λ (n : ℕ). isCurrent (stateOf t n)) e ∙ hc)
+      top′ : (q : ℕ) → stateOf (withProcess t p y) q ≡ Ready → (b : Bool) → eqb q p ≡ b → priorityOf (withProcess t p y) q ≤ priorityOf (withProcess t p y) (currentOf (withProcess t p y))
+      top′ q k true e = absurd (true≢false (sym (ap isReady (ap (λ (r : Process). r .state) (sym (at-same t p y (live-slot l p below))) ∙ ap (stateOf (withProcess t p y)) (sym (eqb-true q p e)) ∙ k)) ∙ hr))
+      top′ q k false e =
+          let a : priorityOf (withProcess t p y) q ≡ priorityOf t q = ap (λ (r : Process). r .priority) (at-other t p y q (eqb-false q p e)) in
+          let b : priorityOf (withProcess t p y) (currentOf (withProcess t p y)) ≡ priorityOf t (currentOf t) = ap (λ (c : List ℕ). priorityOf (withProcess t p y) (first c)) same ∙ ap (λ (r : Process). r .priority) (at-other t p y (currentOf t) c-other) in
+          omega (arith, r .top q (ap (λ (r : Process). r .state) (sym (at-other t p y q (eqb-false q p e))) ∙ k))
+
+  pub none-set : Running t → isCurrent (stateOf t p) ≡ true → isCurrent (y .state) ≡ false → currents (withProcess t p y) ≡ []
+  none-set r hc hy = line-leave t p y isCurrent (live-slot l p below) hy ∙ ap (without p) (current-only r ∙ ap (λ (n : ℕ). n ∷ []) only) ∙ without-only p
+    where
+      only : currentOf t ≡ p
+      only = times-only p (currentOf t) (ap (times p) (sym (current-only r)) ∙ in-line l p isCurrent below ∙ ap (λ (b : Bool). if b then 1 else 0) hc)
+
+-- A process that waits on nothing stops
+
+pub queue-set : {t : Tables} → Laid t → (p : ℕ) → p < processLimit → (y : Process) (r : ℕ) → waitsOn r (y .state) ≡ false → waitsOn r (stateOf t p) ≡ false → queue (withProcess t p y) r ≡ queue t r
+queue-set {t} l p below y r hy hs = line-leave t p y (waitsOn r) (live-slot l p below) hy ∙ line-absent t p (waitsOn r) hs
+
+module _ {t : Tables} (S : Sound t) (p : ℕ) (below : p < processLimit) (hz : 0 ≢ p) (y : Process) (hr : isReady (y .state) ≡ false) (hy : isCurrent (y .state) ≡ false) (hw : (r : ℕ) → waitsOn r (y .state) ≡ false)
+    (hf : y .state ≡ Free → y .priority ≡ 0) (hl : isFree (y .state) ≡ false → (1 ≤ y .priority) × (y .priority ≤ priorityLimit)) (hs : (r : ℕ) → waitsOn r (stateOf t p) ≡ false) where
+  pub stop-settled : (v : ℤ) → Settled t (finish (stop v t p y) .tables)
+  stop-settled v = settled-trans refl (λ r. queue-set (S .laid) p below y r (hw r) (hs r)) (finished prepared)
+    where
+      few : (b : Bool) → isCurrent (stateOf t p) ≡ b → length (currents (withProcess t p y)) ≤ 1
+      few true e = rw (none-set (S .laid) p below hz y hr (S .running) e hy) (omega arith)
+      few false e = let k : length (currents (withProcess t p y)) ≡ 1 = running-set (S .laid) p below hz y hr (S .running) e hy .one in omega arith
+      prepared : Prepared (stop v t p y)
+      prepared = record { laid = laid-set (S .laid) p below hz y hr hf hl; few = few (isCurrent (stateOf t p)) refl; zero = zero-set (S .laid) p below hz y hr (S .running .zero); runs = λ e. running-set (S .laid) p below hz y hr (S .running) e hy }
+
+-- A waiter stops
+
+module _ {t : Tables} (S : Sound t) (p s : ℕ) (hz : 0 ≢ p) (h : stateOf t p ≡ Waiting s) where
+  pub waiter-used : isUsed t s ≡ true
+  waiter-used = go (isUsed t s) refl
+    where
+      below : p < processLimit
+      below = live-below (S .laid) p (ap isFree h)
+      once : times p (queue t s) ≡ 1
+      once = in-line (S .laid) p (waitsOn s) below ∙ ap (λ (b : Bool). if b then 1 else 0) (ap (waitsOn s) h ∙ eq-eqb s s refl)
+      go : (b : Bool) → isUsed t s ≡ b → b ≡ true
+      go true e = refl
+      go false e =
+          let k : Counted (pos 0) (queue t s) = subst (λ (c : ℤ). Counted c (queue t s)) (S .queued .unused s e) (S .queued .counted s) in
+          absurd (times-empty p (queue t s) once k)
+
+  pub kill-waiter : (v : ℤ) → Effect t (finish (stop v (withCount t s (sucℤ (countOf t s))) p freeSlot) .tables) s (isUsed t s) (sucℤ (countOf t s)) (without p (queue t s))
+  kill-waiter v =
+      effect-done (stop v t₁ p freeSlot) s x (used-below (S .laid) s waiter-used) prepared refl
+      (line-leave t₁ p freeSlot (waitsOn s) (live-slot l₁ p below) refl ∙ ap (without p) (line-entry t s x (waitsOn s)))
+      (λ r k. queue-set l₁ p below freeSlot r refl (ap (waitsOn r) h ∙ ne-eqb s r (λ d. k (sym d))) ∙ line-entry t s x (waitsOn r))
+    where
+      x : Semaphore
+      x = record { used = isUsed t s; count = sucℤ (countOf t s) }
+      t₁ : Tables
+      t₁ = withSemaphore t s x
+      l₁ : Laid t₁
+      l₁ = laid-entry (S .laid) s x
+      below : p < processLimit
+      below = live-below (S .laid) p (ap isFree h)
+      runs : Running (withProcess t₁ p freeSlot)
+      runs = running-set l₁ p below hz freeSlot refl (running-entry (S .running) s x) (ap isCurrent h) refl
+      prepared : Prepared (stop v t₁ p freeSlot)
+      prepared = record { laid = laid-set l₁ p below hz freeSlot refl (λ _. refl) (λ k. absurd (true≢false k)); few = omega (arith, runs .one); zero = zero-set l₁ p below hz freeSlot refl (S .running .zero); runs = λ e. runs }
+
+pub counted-kill : (c : ℤ) (q : List ℕ) (p : ℕ) → Counted c q → times p q ≡ 1 → Counted (sucℤ c) (without p q)
+counted-kill (pos n) q p h k = absurd (times-empty p q k h)
+counted-kill (negsuc zero) q p h k = length-empty (without p q) (let e : suc (length (without p q)) ≡ length q = length-without p q k in omega arith)
+counted-kill (negsuc (suc n)) q p h k = let e : suc (length (without p q)) ≡ length q = length-without p q k in omega arith
+
+-- A process is made ready
+
+pub resume-settled : {t : Tables} → Sound t → (p : ℕ) → isSuspended (stateOf t p) ≡ true → (v : ℤ) → Settled t (finish (switching v (makeReady t p)) .tables)
+resume-settled {t} S p h v =
+    settled-trans (m .semaphores) (λ s. line-kept m (waitsOn s) refl (suspended-no-waiter (stateOf t p) s h))
+    (settled (makeReady t p) (laid-moved (S .laid) m below refl live (falling-ready (S .laid) p below))
+    (rw (line-kept m isCurrent refl (suspended-not-current (stateOf t p) h), S .running .one) (omega arith)) (zero-moved m refl (S .running .zero)))
+  where
+    live : isFree (stateOf t p) ≡ false
+    live = suspended-live (stateOf t p) h
+    below : p < processLimit
+    below = live-below (S .laid) p live
+    m : Moved t (makeReady t p) p Ready
+    m = moved-join t p _ Ready (live-slot (S .laid) p below) (live-once (S .laid) p below)
+
+pub yield-settled : {t : Tables} → Sound t → Settled t (finish (switching (pos 1) t) .tables)
+yield-settled {t} S = settled t (S .laid) (rw (S .running .one) (omega arith)) (S .running .zero)
