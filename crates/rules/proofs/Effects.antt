@@ -1,4 +1,22 @@
 -- What a call does to the semaphores as they are seen: used, count, queue. Assumes nothing.
+use Prim.Native.Nat.{ℕ, _<_}
+use mathlib.Core.Bool.{Bool, true, false}
+use mathlib.Core.List.{List}
+use mathlib.Core.Logic.{_≢_}
+use mathlib.Core.Path.{_≡_, refl, sym, ap, _∙_}
+use lib.Dec.{eqb}
+use lib.IntN.{ℤ, pos}
+use lib.ListN.{length, getD, set, length-set}
+use lib.Seq.{getD-set-same, getD-set-other}
+use borrow.Author.Tests.{eqb-true, eqb-false}
+use Rattle.tables.specs.declared.State.{State}
+use Rattle.tables.specs.declared.Semaphore.{Semaphore}
+use Rattle.tables.specs.declared.Tables.{Tables}
+use Rattle.tables.specs.Readers.{freeSemaphore, semaphore, isUsed, countOf, line, queue}
+use Rattle.tables.specs.Setters.{withSemaphore}
+use Rattle.tables.specs.Sound.{Laid, Counted, Running, Sound}
+use Rattle.rules.specs.Calls.{Deed, finish}
+use Rattle.rules.proofs.Resched.{Prepared, finished}
 
 -- how a semaphore is seen
 pub record Shows (t : Tables) (s : ℕ) (u : Bool) (c : ℤ) (q : List ℕ) : Type 0 where

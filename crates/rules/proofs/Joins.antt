@@ -1,4 +1,22 @@
 -- A process joins a line: what every line becomes. Assumes nothing.
+use Prim.Native.Nat.{ℕ, _<_}
+use mathlib.Core.Bool.{Bool, true, false, not, _&&_, and-true, and-false}
+use mathlib.Core.List.{[], _∷_, _++_}
+use mathlib.Core.Logic.{_≢_}
+use mathlib.Core.Path.{_≡_, refl, sym, ap, _∙_}
+use lib.Dec.{eqb}
+use lib.ListN.{length}
+use lib.Seq.{getD-set-same, getD-set-other}
+use borrow.Author.Tests.{eq-eqb, eqb-false}
+use Rattle.lists.specs.Lists.{filter, without, putBefore, times}
+use Rattle.lists.proofs.ListLaws.{filter-without, filter-putBefore-no, filter-putBefore-yes, putBefore-last, place-is, putBefore-ext}
+use Rattle.tables.specs.declared.State.{State}
+use Rattle.tables.specs.declared.State.the-variants.{Ready, Waiting}
+use Rattle.tables.specs.declared.Process.{Process}
+use Rattle.tables.specs.declared.Tables.{Tables}
+use Rattle.tables.specs.States.{isReady, waitsOn}
+use Rattle.tables.specs.Readers.{freeSlot, stateOf, priorityOf, line, readyList, queue}
+use Rattle.rules.specs.Schedule.{joining, readyBefore, makeWait}
 
 -- p joins a line
 
@@ -24,14 +42,21 @@ module _ (t : Tables) (p : ℕ) (before : ℕ → Bool) (st : State) (test : Sta
 
   -- a line that it doesn't join
   pub line-join-other : test st ≡ false → line (joining t p before st) test ≡ without p (line t test)
-  unfolding line joining place
-  line-join-other h = filter-putBefore-no (λ x. test (stateOf (joining t p before st) x)) before p (without p (t .order)) (ap test joined-same ∙ h) ∙ rest
+  unfolding line joining
+  line-join-other h =
+      ap (filter now) (place-is before p (t .order) once)
+      ∙ filter-putBefore-no now before p (without p (t .order)) (ap test joined-same ∙ h)
+      ∙ rest
+    where
+      now : ℕ → Bool
+      now x = test (stateOf (joining t p before st) x)
 
   -- the line that it joins
   pub line-join : (low : ℕ → Bool) → test st ≡ true → ((x : ℕ) → before x ≡ (test (stateOf t x) && low x)) → line (joining t p before st) test ≡ putBefore low p (without p (line t test))
-  unfolding line joining place
+  unfolding line joining
   line-join low h k =
-      ap (filter now) (putBefore-ext before (λ x. now x && low x) p (t .order) (λ x n. k x ∙ ap (λ (st : State). test st && low x) (sym (joined-other x n))))
+      ap (filter now) (place-is before p (t .order) once)
+      ∙ ap (filter now) (putBefore-ext before (λ x. now x && low x) p (t .order) (λ x n. k x ∙ ap (λ (st : State). test st && low x) (sym (joined-other x n))))
       ∙ filter-putBefore-yes now (λ x. now x && low x) low p (without p (t .order)) (ap test joined-same ∙ h) (λ x. refl)
       ∙ ap (putBefore low p) rest
     where
@@ -40,10 +65,10 @@ module _ (t : Tables) (p : ℕ) (before : ℕ → Bool) (st : State) (test : Sta
 
 -- The two joins that the rules make
 
-pub queue-makeWait : (t : Tables) (p s : ℕ) → p < length (t .processes) → queue (makeWait t p s) s ≡ without p (queue t s) ++ p ∷ []
-queue-makeWait t p s hp =
-    line-join t p (λ x. false) (Waiting s) (waitsOn s) hp (λ x. false) (eq-eqb s s refl) (λ x. sym (and-false (waitsOn s (stateOf t x))))
+pub queue-makeWait : (t : Tables) (p s : ℕ) → p < length (t .processes) → times p (t .order) ≡ 1 → queue (makeWait t p s) s ≡ without p (queue t s) ++ p ∷ []
+queue-makeWait t p s hp once =
+    line-join t p (λ x. false) (Waiting s) (waitsOn s) hp once (λ x. false) (eq-eqb s s refl) (λ x. sym (and-false (waitsOn s (stateOf t x))))
     ∙ putBefore-last p (without p (queue t s))
 
-pub ready-joined : (low : ℕ → Bool) (t : Tables) (p : ℕ) → p < length (t .processes) → readyList (readyBefore low t p) ≡ putBefore low p (without p (readyList t))
-ready-joined low t p hp = line-join t p (λ x. isReady (stateOf t x) && low x) Ready isReady hp low refl (λ x. refl)
+pub ready-joined : (low : ℕ → Bool) (t : Tables) (p : ℕ) → p < length (t .processes) → times p (t .order) ≡ 1 → readyList (readyBefore low t p) ≡ putBefore low p (without p (readyList t))
+ready-joined low t p hp once = line-join t p (λ x. isReady (stateOf t x) && low x) Ready isReady hp once low refl (λ x. refl)

@@ -1,4 +1,27 @@
 -- A process changes its state, and perhaps its place in the order: what stays, and what every line becomes. Assumes nothing.
+use Prim.Native.Nat.{ℕ, _≤_, _<_}
+use native.Mathlib.Omega.{arith}
+use mathlib.Core.Bool.{Bool, true, false, not, true≢false}
+use mathlib.Core.Logic.{_≢_}
+use mathlib.Core.Path.{_≡_, refl, sym, ap, subst, _∙_, fun-ext}
+use lib.Dec.{eqb, ltb}
+use lib.ListN.{length, length-set}
+use borrow.Author.Tests.{ltb-true, ltb-false, eqb-true, eqb-false}
+use Rattle.lists.specs.Lists.{without, times, Falling}
+use Rattle.lists.proofs.ListLaws.{times-place, length-place}
+use Rattle.lists.proofs.FallingLaws.{falling-filter, falling-put}
+use Rattle.tables.specs.declared.State.{State}
+use Rattle.tables.specs.declared.State.the-variants.{Free}
+use Rattle.tables.specs.declared.Process.{Process}
+use Rattle.tables.specs.declared.Tables.{Tables}
+use Rattle.tables.specs.Limits.{processLimit, priorityLimit}
+use Rattle.tables.specs.States.{isFree, isReady}
+use Rattle.tables.specs.Readers.{stateOf, priorityOf, line, readyList}
+use Rattle.tables.specs.Setters.{withState}
+use Rattle.tables.specs.Sound.{Laid}
+use Rattle.tables.proofs.LineLaws.{at-same, at-other, priority-kept, line-leave, live-slot, live-once}
+use Rattle.rules.specs.Schedule.{joining, readyBefore, makeReady}
+use Rattle.rules.proofs.Joins.{joined-same, joined-other, line-join-other, ready-joined}
 
 -- in t′ process p is in state st, and the rest is as in t
 pub record Moved (t t′ : Tables) (p : ℕ) (st : State) : Type 0 where
@@ -27,10 +50,10 @@ moved-state t p st hp =
 pub moved-join : (t : Tables) (p : ℕ) (before : ℕ → Bool) (st : State) → p < length (t .processes) → times p (t .order) ≡ 1 → Moved t (joining t p before st) p st
 unfolding joining
 moved-join t p before st hp h1 =
-    record { same = joined-same t p before st isFree hp
-           ; other = joined-other t p before st isFree hp
+    record { same = joined-same t p before st isFree hp h1
+           ; other = joined-other t p before st isFree hp h1
            ; priority = priority-kept t p st
-           ; leaves = λ test h. line-join-other t p before st test hp h
+           ; leaves = λ test h. line-join-other t p before st test hp h1 h
            ; order = λ q. times-place q before p (t .order) h1
            ; places = length-place before p (t .order) h1
            ; slots = length-set (t .processes) p (record { state = st; priority = priorityOf t p })
@@ -68,7 +91,7 @@ module _ {t : Tables} (l : Laid t) where
   pub falling-joined : (low : ℕ → Bool) (p : ℕ) → p < processLimit → ((x : ℕ) → low x ≡ true → priorityOf t x ≤ priorityOf t p) → ((x : ℕ) → low x ≡ false → priorityOf t p ≤ priorityOf t x) → Falling (priorityOf t) (readyList (readyBefore low t p))
   unfolding without
   falling-joined low p hp up down =
-      rw (ready-joined low t p (live-slot p hp))
+      rw (ready-joined low t p (live-slot l p hp) (live-once l p hp))
       (falling-put (priorityOf t) low p up down (without p (readyList t))
       (falling-filter (priorityOf t) (λ x. not (eqb x p)) (readyList t) (l .falling)))
 

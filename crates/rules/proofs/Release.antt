@@ -1,4 +1,27 @@
 -- Delete and reset: every waiter is released. Assumes nothing.
+use Prim.Native.Nat.{ℕ, zero, _<_}
+use native.Mathlib.Omega.{arith}
+use mathlib.Core.Bool.{Bool, true, false, not, true≢false}
+use mathlib.Core.List.{List, [], _∷_}
+use mathlib.Core.Logic.{_≢_}
+use mathlib.Core.Path.{_≡_, refl, sym, ap, _∙_}
+use Rattle.lists.specs.Lists.{if_then_else_, without, times, isEmpty}
+use Rattle.lists.proofs.ListLaws.{without-first}
+use Rattle.tables.specs.declared.State.the-variants.{Ready}
+use Rattle.tables.specs.declared.Semaphore.{Semaphore}
+use Rattle.tables.specs.declared.Tables.{Tables}
+use Rattle.tables.specs.Limits.{processLimit}
+use Rattle.tables.specs.States.{isFree, isCurrent, waitsOn}
+use Rattle.tables.specs.Readers.{stateOf, isUsed, queue, currents}
+use Rattle.tables.specs.Setters.{withSemaphore}
+use Rattle.tables.specs.Sound.{Laid, Running, Sound}
+use Rattle.tables.proofs.States.{waits-live, waits-not-current, waits-other}
+use Rattle.tables.proofs.LineLaws.{line-first, live-below, live-slot, live-once, used-entry, in-line}
+use Rattle.rules.specs.Schedule.{makeReady, makeAllReady}
+use Rattle.rules.specs.Calls.{release, finish}
+use Rattle.rules.proofs.Moves.{Moved, moved-join, laid-moved, falling-ready}
+use Rattle.rules.proofs.Resched.{Zero, line-kept, zero-moved, Prepared}
+use Rattle.rules.proofs.Effects.{Effect, line-entry, laid-entry, running-entry, effect-done}
 
 -- t′ is t with every waiter of s made ready
 record Freed (s : ℕ) (t t′ : Tables) : Type 0 where
@@ -45,7 +68,7 @@ module _ {t : Tables} (S : Sound t) (s : ℕ) (hu : isUsed t s ≡ true) (x : Se
   pub release-effect : Effect t (finish (release t s x) .tables) s (x .used) (x .count) []
   unfolding isEmpty makeAllReady
   release-effect =
-      effect-done (release t s x) s x (used-below (S .laid) s hu) prepared (freed .semaphores) (freed .gone) (λ r h. freed .others r h ∙ line-entry t s x (waitsOn r))
+      effect-done (release t s x) s x (used-entry (S .laid) s hu) prepared (freed .semaphores) (freed .gone) (λ r h. freed .others r h ∙ line-entry t s x (waitsOn r))
     where
       runs : (q : List ℕ) → queue t s ≡ q → not (isEmpty q) ≡ false → Running (makeAllReady (withSemaphore t s x) q)
       runs [] e h = running-entry (S .running) s x

@@ -1,4 +1,30 @@
 -- What rescheduling leaves behind. Callers use `settled` and never the rule itself. Assumes nothing.
+use Prim.Native.Nat.{ℕ, _≤_, _<_}
+use native.Mathlib.Omega.{arith}
+use mathlib.Core.Bool.{Bool, true, false, _||_, true≢false}
+use mathlib.Core.List.{List, [], _∷_, cons≢nil}
+use mathlib.Core.Logic.{_≢_}
+use mathlib.Core.Path.{_≡_, refl, sym, ap, _∙_}
+use lib.Dec.{eqb, ltb}
+use lib.ListN.{length}
+use borrow.Author.Tests.{ltb-true, eqb-true, eqb-false}
+use Rattle.lists.specs.Lists.{if_then_else_, without, times, firstOr, first, Falling}
+use Rattle.lists.proofs.ListLaws.{filter-ext, filter-only, filter-none, times-length, putBefore-some, without-only, one-or-none}
+use Rattle.lists.proofs.FallingLaws.{atMost-member}
+use Rattle.tables.specs.declared.State.{State}
+use Rattle.tables.specs.declared.State.the-variants.{Current, Ready}
+use Rattle.tables.specs.declared.Tables.{Tables}
+use Rattle.tables.specs.Limits.{processLimit}
+use Rattle.tables.specs.States.{isFree, isCurrent, isReady, waitsOn}
+use Rattle.tables.specs.Readers.{stateOf, priorityOf, line, readyList, queue, currents, currentOf}
+use Rattle.tables.specs.Setters.{withState}
+use Rattle.tables.specs.Sound.{Laid, Running}
+use Rattle.tables.proofs.States.{ready-live, ready-no-waiter, current-live, current-no-waiter}
+use Rattle.tables.proofs.LineLaws.{line-absent, line-first, live-below, live-slot, live-once, in-line}
+use Rattle.rules.specs.Schedule.{readyBefore, makeReady, startFirst, switch, reschedule}
+use Rattle.rules.specs.Calls.{Deed, finish}
+use Rattle.rules.proofs.Joins.{ready-joined}
+use Rattle.rules.proofs.Moves.{Moved, moved-state, moved-join, laid-moved, falling-left, falling-ready}
 
 -- process 0 is current or ready
 abbrev pub Zero : Tables → Type 0
@@ -139,7 +165,7 @@ module _ (t : Tables) (l : Laid t) (few : length (currents t) ≤ 1) (z : Zero t
   put-back low c cs k fall =
       settled-trans (m .semaphores) (λ s. line-kept m (waitsOn s) refl (current-no-waiter (stateOf t c) s here))
       (start-settled (readyBefore low t c) (laid-moved l m below refl live (fall below)) gone (zero-moved m refl z) (readyList (readyBefore low t c)) refl
-      (λ h. putBefore-some low c (without c (readyList t)) (sym (ready-joined low t c (live-slot l c below)) ∙ h)))
+      (λ h. putBefore-some low c (without c (readyList t)) (sym (ready-joined low t c (live-slot l c below) (live-once l c below)) ∙ h)))
     where
       here : isCurrent (stateOf t c) ≡ true
       here = line-first t isCurrent c cs k

@@ -1,4 +1,36 @@
 -- A process stops, resumes or yields: what stays sound. Assumes nothing.
+use Prim.Native.Nat.{ℕ, zero, suc, _≤_, _<_}
+use native.Mathlib.Omega.{arith}
+use mathlib.Core.Bool.{Bool, true, false, not, _||_, true≢false}
+use mathlib.Core.List.{List, [], _∷_}
+use mathlib.Core.Logic.{_≢_}
+use mathlib.Core.Path.{_≡_, refl, sym, ap, subst, _∙_}
+use lib.Dec.{eqb}
+use lib.IntN.{ℤ, pos, negsuc, sucℤ}
+use lib.ListN.{length, length-set}
+use borrow.Author.Tests.{ne-eqb, eqb-true, eqb-false}
+use Rattle.lists.specs.Lists.{if_then_else_, without, times, firstOr, first}
+use Rattle.lists.proofs.Bools.{not-true}
+use Rattle.lists.proofs.ListLaws.{length-without, without-only, times-only, times-empty, length-empty}
+use Rattle.lists.proofs.FallingLaws.{falling-filter, falling-ext}
+use Rattle.tables.specs.declared.State.the-variants.{Free, Ready, Waiting}
+use Rattle.tables.specs.declared.Process.{Process}
+use Rattle.tables.specs.declared.Semaphore.{Semaphore}
+use Rattle.tables.specs.declared.Tables.{Tables}
+use Rattle.tables.specs.Limits.{processLimit, priorityLimit}
+use Rattle.tables.specs.States.{isFree, isCurrent, isReady, isSuspended, waitsOn}
+use Rattle.tables.specs.Readers.{freeSlot, process, stateOf, priorityOf, isUsed, countOf, readyList, queue, currents, currentOf}
+use Rattle.tables.specs.Setters.{withProcess, withSemaphore, withCount}
+use Rattle.tables.specs.Sound.{Laid, Counted, Running, Sound}
+use Rattle.tables.proofs.States.{suspended-live, suspended-not-current, suspended-no-waiter}
+use Rattle.tables.proofs.LineLaws.{at-same, at-other, line-leave, line-absent, line-first, live-below, live-slot, live-once, used-entry, in-line}
+use Rattle.tables.proofs.Sentences.{waiter-used}
+use Rattle.rules.specs.Schedule.{makeReady}
+use Rattle.rules.specs.Calls.{switching, stop, finish}
+use Rattle.rules.proofs.Moves.{Moved, moved-join, laid-moved, falling-ready}
+use Rattle.rules.proofs.Resched.{Zero, Settled, line-kept, zero-moved, settled-trans, settled, Prepared, finished}
+use Rattle.rules.proofs.Effects.{Effect, line-entry, laid-entry, running-entry, effect-done}
+use Rattle.rules.proofs.WaitSignal.{current-only}
 
 -- A slot is written anew, off the ready list
 
@@ -82,22 +114,9 @@ module _ {t : Tables} (S : Sound t) (p : ℕ) (below : p < processLimit) (hz : 0
 -- A waiter stops
 
 module _ {t : Tables} (S : Sound t) (p s : ℕ) (hz : 0 ≢ p) (h : stateOf t p ≡ Waiting s) where
-  pub waiter-used : isUsed t s ≡ true
-  waiter-used = go (isUsed t s) refl
-    where
-      below : p < processLimit
-      below = live-below (S .laid) p (ap isFree h)
-      once : times p (queue t s) ≡ 1
-      once = in-line (S .laid) p (waitsOn s) below ∙ ap (λ (b : Bool). if b then 1 else 0) (ap (waitsOn s) h ∙ eq-eqb s s refl)
-      go : (b : Bool) → isUsed t s ≡ b → b ≡ true
-      go true e = refl
-      go false e =
-          let k : Counted (pos 0) (queue t s) = subst (λ (c : ℤ). Counted c (queue t s)) (S .queued .unused s e) (S .queued .counted s) in
-          absurd (times-empty p (queue t s) once k)
-
   pub kill-waiter : (v : ℤ) → Effect t (finish (stop v (withCount t s (sucℤ (countOf t s))) p freeSlot) .tables) s (isUsed t s) (sucℤ (countOf t s)) (without p (queue t s))
   kill-waiter v =
-      effect-done (stop v t₁ p freeSlot) s x (used-below (S .laid) s waiter-used) prepared refl
+      effect-done (stop v t₁ p freeSlot) s x (used-entry (S .laid) s (waiter-used S p s h)) prepared refl
       (line-leave t₁ p freeSlot (waitsOn s) (live-slot l₁ p below) refl ∙ ap (without p) (line-entry t s x (waitsOn s)))
       (λ r k. queue-set l₁ p below freeSlot r refl (ap (waitsOn r) h ∙ ne-eqb s r (λ d. k (sym d))) ∙ line-entry t s x (waitsOn r))
     where

@@ -1,4 +1,32 @@
 -- Wait and signal: what they do to the semaphore that they name. Assumes nothing.
+use Prim.Native.Nat.{ℕ, zero, suc, _<_}
+use native.Mathlib.Omega.{arith}
+use mathlib.Core.Bool.{Bool, true, false, _&&_, true≢false, and-true}
+use mathlib.Core.List.{List, [], _∷_, _++_}
+use mathlib.Core.Logic.{_≢_}
+use mathlib.Core.Path.{_≡_, refl, sym, ap, _∙_}
+use lib.Dec.{eqb}
+use lib.IntN.{ℤ, pos, negsuc, sucℤ, predℤ}
+use lib.ListN.{length, drop, length-append}
+use lib.Signed.{leZ}
+use borrow.Author.Tests.{ne-eqb, eqb-false}
+use Rattle.lists.specs.Lists.{if_then_else_, without, times, firstOr, first}
+use Rattle.lists.proofs.ListLaws.{without-only, one-or-none, without-first}
+use Rattle.tables.specs.declared.State.the-variants.{Ready, Waiting}
+use Rattle.tables.specs.declared.Tables.{Tables}
+use Rattle.tables.specs.Limits.{processLimit}
+use Rattle.tables.specs.States.{isFree, isCurrent, waitsOn}
+use Rattle.tables.specs.Readers.{stateOf, isUsed, countOf, queue, currents, currentOf}
+use Rattle.tables.specs.Setters.{withCount}
+use Rattle.tables.specs.Sound.{Laid, Counted, Running, Sound}
+use Rattle.tables.proofs.States.{current-live, current-no-waiter, waits-live, waits-not-current, waits-other}
+use Rattle.tables.proofs.LineLaws.{line-absent, line-first, live-below, live-slot, live-once, used-entry, in-line}
+use Rattle.rules.specs.Schedule.{makeReady, makeWait}
+use Rattle.rules.specs.Calls.{below0, plain, switching, waitOn, signalOn, finish}
+use Rattle.rules.proofs.Joins.{queue-makeWait}
+use Rattle.rules.proofs.Moves.{Moved, moved-join, laid-moved, falling-left, falling-ready}
+use Rattle.rules.proofs.Resched.{line-kept, zero-other, zero-moved, Prepared}
+use Rattle.rules.proofs.Effects.{Effect, line-entry, laid-entry, running-entry, effect-entry, effect-done}
 
 -- Counts
 
@@ -37,14 +65,14 @@ module _ {t : Tables} (S : Sound t) (s : ℕ) (hu : isUsed t s ≡ true) where
   -- only the count changes
   only : (c : ℤ) → Effect t (withCount t s c) s (isUsed t s) c (queue t s)
   only c =
-      effect-entry s (record { used = isUsed t s; count = c }) (used-below (S .laid) s hu) (laid-entry (S .laid) s _) (running-entry (S .running) s _) refl
+      effect-entry s (record { used = isUsed t s; count = c }) (used-entry (S .laid) s hu) (laid-entry (S .laid) s _) (running-entry (S .running) s _) refl
       (line-entry t s _ (waitsOn s)) (λ r h. line-entry t s _ (waitsOn r))
 
   -- the caller waits at the queue's tail, and another is started
   blocks : (c : ℤ) → 0 ≢ currentOf t → Effect t (finish (switching (pos 1) (makeWait (withCount t s c) (currentOf t) s)) .tables) s (isUsed t s) c (queue t s ++ currentOf t ∷ [])
   blocks c hz =
-      effect-done _ s (record { used = isUsed t s; count = c }) (used-below (S .laid) s hu) g (m .semaphores)
-      (queue-makeWait t₁ p s (live-slot l₁ p below) ∙ ap (λ (l : List ℕ). l ++ p ∷ []) (line-absent t₁ p (waitsOn s) (current-no-waiter (stateOf t p) s here) ∙ line-entry t s _ (waitsOn s)))
+      effect-done _ s (record { used = isUsed t s; count = c }) (used-entry (S .laid) s hu) g (m .semaphores)
+      (queue-makeWait t₁ p s (live-slot l₁ p below) (live-once l₁ p below) ∙ ap (λ (l : List ℕ). l ++ p ∷ []) (line-absent t₁ p (waitsOn s) (current-no-waiter (stateOf t p) s here) ∙ line-entry t s _ (waitsOn s)))
       (λ r h. line-kept m (waitsOn r) (ne-eqb s r (λ e. h (sym e))) (current-no-waiter (stateOf t p) r here) ∙ line-entry t s _ (waitsOn r))
     where
       p : ℕ
@@ -77,7 +105,7 @@ module _ {t : Tables} (S : Sound t) (s : ℕ) (hu : isUsed t s ≡ true) where
   -- the longest waiter becomes ready
   wakes : (c : ℤ) (f : ℕ) (fs : List ℕ) → queue t s ≡ f ∷ fs → Effect t (finish (switching (pos 1) (makeReady (withCount t s c) f)) .tables) s (isUsed t s) c fs
   wakes c f fs e =
-      effect-done _ s (record { used = isUsed t s; count = c }) (used-below (S .laid) s hu) g (m .semaphores)
+      effect-done _ s (record { used = isUsed t s; count = c }) (used-entry (S .laid) s hu) g (m .semaphores)
       (m .leaves (waitsOn s) refl ∙ ap (without f) (line-entry t s _ (waitsOn s) ∙ e) ∙ without-first f fs once)
       (λ r h. line-kept m (waitsOn r) refl (waits-other (stateOf t f) s r here (λ d. h (sym d))) ∙ line-entry t s _ (waitsOn r))
     where

@@ -111,6 +111,9 @@ module _ {t : Tables} (l : Laid t) where
       let n : length (t .semaphores) ≡ semaphoreLimit = l .entries in
       below? s semaphoreLimit (λ k. k) (λ k. absurd (true≢false (sym h ∙ ap (λ (x : Semaphore). x .used) (entry-past t s (omega arith)))))
 
+  pub used-entry : (s : ℕ) → isUsed t s ≡ true → s < length (t .semaphores)
+  used-entry s h = let e : length (t .semaphores) ≡ semaphoreLimit = l .entries in omega (arith, used-below s h)
+
   -- each process stands once in the line that its state names, and in no other
   pub in-line : (p : ℕ) (test : State → Bool) → p < processLimit → times p (line t test) ≡ (if test (stateOf t p) then 1 else 0)
   unfolding line
