@@ -16,7 +16,7 @@ use Rattle.tables.specs.Readers.{freeSemaphore, semaphore, isUsed, countOf, lin
 use Rattle.tables.specs.Setters.{withSemaphore}
 use Rattle.tables.specs.Sound.{Laid, Counted, Running, Sound}
 use Rattle.rules.specs.Calls.{Deed, finish}
-use Rattle.rules.proofs.Resched.{Prepared, finished}
+use Rattle.rules.proofs.Resched.{Settled, Prepared, finished}
 
 -- how a semaphore is seen
 pub record Shows (t : Tables) (s : ℕ) (u : Bool) (c : ℤ) (q : List ℕ) : Type 0 where
@@ -91,3 +91,19 @@ pub effect-done : {t : Tables} {q : List ℕ} (d : Deed) (s : ℕ) (x : Semaphor
     → queue (d .tables) s ≡ q → ((r : ℕ) → r ≢ s → queue (d .tables) r ≡ queue t r) → Effect t (finish d .tables) s (x .used) (x .count) q
 effect-done d s x hs P e a b =
     effect-entry s x hs (finished P .laid) (finished P .running) (finished P .semaphores ∙ e) (finished P .queues s ∙ a) (λ r h. finished P .queues r ∙ b r h)
+
+-- Calls that no semaphore shows
+
+pub settled-shows : {t t′ : Tables} → Settled t t′ → (r : ℕ) → Shows t′ r (isUsed t r) (countOf t r) (queue t r)
+settled-shows g r =
+    record { used = ap (λ (l : List Semaphore). getD l r freeSemaphore .used) (g .semaphores)
+           ; count = ap (λ (l : List Semaphore). getD l r freeSemaphore .count) (g .semaphores)
+           ; waiters = g .queues r }
+
+pub settled-sound : {t t′ : Tables} → Sound t → Settled t t′ → Sound t′
+settled-sound {t} {t′} S g = record { laid = g .laid; running = g .running; queued = record { counted = counted; unused = unused } }
+  where
+    counted : (s : ℕ) → Counted (countOf t′ s) (queue t′ s)
+    counted s = rw (settled-shows g s .count, settled-shows g s .waiters) (S .queued .counted s)
+    unused : (s : ℕ) → isUsed t′ s ≡ false → countOf t′ s ≡ pos 0
+    unused s h = settled-shows g s .count ∙ S .queued .unused s (sym (settled-shows g s .used) ∙ h)

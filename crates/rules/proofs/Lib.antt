@@ -6,3 +6,6 @@ pub mod WaitSignal
 pub mod Release
 pub mod Slots
 pub mod Found
+pub mod Refusals
+pub mod Does
+pub mod Kept

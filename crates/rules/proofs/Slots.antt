@@ -24,13 +24,12 @@ use Rattle.tables.specs.Setters.{withProcess, withSemaphore, withCount}
 use Rattle.tables.specs.Sound.{Laid, Counted, Running, Sound}
 use Rattle.tables.proofs.States.{suspended-live, suspended-not-current, suspended-no-waiter}
 use Rattle.tables.proofs.LineLaws.{at-same, at-other, line-leave, line-absent, line-first, live-below, live-slot, live-once, used-entry, in-line}
-use Rattle.tables.proofs.Sentences.{waiter-used}
+use Rattle.tables.proofs.Sentences.{waiter-used, current-only}
 use Rattle.rules.specs.Schedule.{makeReady}
 use Rattle.rules.specs.Calls.{switching, stop, finish}
 use Rattle.rules.proofs.Moves.{Moved, moved-join, laid-moved, falling-ready}
 use Rattle.rules.proofs.Resched.{Zero, Settled, line-kept, zero-moved, settled-trans, settled, Prepared, finished}
 use Rattle.rules.proofs.Effects.{Effect, line-entry, laid-entry, running-entry, effect-done}
-use Rattle.rules.proofs.WaitSignal.{current-only}
 
 -- A slot is written anew, off the ready list
 
@@ -155,3 +154,8 @@ resume-settled {t} S p h v =
 
 pub yield-settled : {t : Tables} → Sound t → Settled t (finish (switching (pos 1) t) .tables)
 yield-settled {t} S = settled t (S .laid) (rw (S .running .one) (omega arith)) (S .running .zero)
+
+-- nothing happens
+
+pub stay-settled : {t : Tables} → Sound t → Settled t t
+stay-settled S = record { laid = S .laid; running = S .running; semaphores = refl; queues = λ s. refl }

@@ -11,16 +11,17 @@ use lib.ListN.{length, drop, length-append}
 use lib.Signed.{leZ}
 use borrow.Author.Tests.{ne-eqb, eqb-false}
 use Rattle.lists.specs.Lists.{if_then_else_, without, times, firstOr, first}
-use Rattle.lists.proofs.ListLaws.{without-only, one-or-none, without-first}
+use Rattle.lists.proofs.ListLaws.{without-only, without-first}
 use Rattle.tables.specs.declared.State.the-variants.{Ready, Waiting}
 use Rattle.tables.specs.declared.Tables.{Tables}
 use Rattle.tables.specs.Limits.{processLimit}
 use Rattle.tables.specs.States.{isFree, isCurrent, waitsOn}
 use Rattle.tables.specs.Readers.{stateOf, isUsed, countOf, queue, currents, currentOf}
 use Rattle.tables.specs.Setters.{withCount}
-use Rattle.tables.specs.Sound.{Laid, Counted, Running, Sound}
+use Rattle.tables.specs.Sound.{Laid, Counted, Sound}
 use Rattle.tables.proofs.States.{current-live, current-no-waiter, waits-live, waits-not-current, waits-other}
 use Rattle.tables.proofs.LineLaws.{line-absent, line-first, live-below, live-slot, live-once, used-entry, in-line}
+use Rattle.tables.proofs.Sentences.{current-only}
 use Rattle.rules.specs.Schedule.{makeReady, makeWait}
 use Rattle.rules.specs.Calls.{below0, plain, switching, waitOn, signalOn, finish}
 use Rattle.rules.proofs.Joins.{queue-makeWait}
@@ -48,16 +49,6 @@ block-not-zero : (c : ℤ) (b : Bool) → (b && leZ c (pos 0)) ≡ false → bel
 block-not-zero (pos zero) b h k = sym (and-true b) ∙ h
 block-not-zero (pos (suc n)) b h k = absurd (true≢false (sym k))
 block-not-zero (negsuc n) b h k = sym (and-true b) ∙ h
-
--- The caller
-
-pub current-only : {t : Tables} → Running t → currents t ≡ currentOf t ∷ []
-unfolding firstOr
-current-only {t} r = go (currents t) (r .one)
-  where
-    go : (c : List ℕ) → length c ≡ 1 → c ≡ first c ∷ []
-    go [] h = absurd (omega arith)
-    go (x ∷ xs) h = ap (λ (l : List ℕ). x ∷ l) (one-or-none x xs (omega arith))
 
 -- Wait
 

@@ -32,9 +32,10 @@ module _ (t : Tables) (l : length (t .order) ≡ processLimit) (h : onceEach (t 
   unfolding line
   current-sum one = row-first (row-of (t .order) l h) (λ p. isCurrent (stateOf t p)) one
 
-  pub current-below : length (currents t) ≡ 1 → currentOf t < processLimit
+  -- and so is a process number, before anything else is known of the tables
+  pub current-inside : length (currents t) ≡ 1 → currentOf t < processLimit
   unfolding firstOr
-  current-below one = go (currents t) refl one
+  current-inside one = go (currents t) refl one
     where
       go : (c : List ℕ) → currents t ≡ c → length c ≡ 1 → first c < processLimit
       go [] e k = absurd (omega arith)
