@@ -80,9 +80,9 @@ round-at size k i h l =
     below? (k + i) size
     (λ c. rw (lt-ltb (k + i) size c) (List·getD-append (countUp k (size - k)) (countUp 0 k) 0 i (omega arith) ∙ listed-from (λ i. i) k (size - k) i 0 (omega arith)))
     (λ c.
-        let e : i ≡ length (countUp k (size - k)) + (k + i - size) = omega arith in
-        rw (le-ltb (k + i) size c)
-        (ap (λ (m : ℕ). getD (countUp k (size - k) ++ countUp 0 k) m 0) e ∙ getD-append-add (countUp k (size - k)) (countUp 0 k) (k + i - size) 0 ∙ listed-at (λ i. i) k (k + i - size) 0 (omega arith)))
+    let e : i ≡ length (countUp k (size - k)) + (k + i - size) = omega arith in
+    rw (le-ltb (k + i) size c)
+    (ap (λ (m : ℕ). getD (countUp k (size - k) ++ countUp 0 k) m 0) e ∙ getD-append-add (countUp k (size - k)) (countUp 0 k) (k + i - size) 0 ∙ listed-at (λ i. i) k (k + i - size) 0 (omega arith)))
 
 -- the search finds a number below the size that passes the test, and every number passed over fails it
 pub record Found (f : ℕ → Bool) (size k x : ℕ) : Type 0 where

@@ -51,23 +51,31 @@ past-below size n h = go (eqb (suc n) size) refl
 module _ {t : Tables} (S : Sound t) where
   pub make-process-settled : (n : ℕ) → (1 ≤ n) × (n ≤ priorityLimit) → isEmpty (freeSlots t) ≡ false → Settled t (newProcess t (first (freeSlots t)) n .tables)
   make-process-settled n hn h =
-      record { laid = laid-cursors (laid-set (S .laid) p below hz y refl (λ k. absurd (true≢false (sym (ap isFree k)))) (λ k. hn)) (t .«next_semaphore») (onePast processLimit p) (S .laid .cursors .0) (past-below processLimit p below)
-             ; running = running-cursors (running-set (S .laid) p below hz y refl (S .running) (free-not-current (stateOf t p) free) refl) (t .«next_semaphore») (onePast processLimit p)
-             ; semaphores = refl
-             ; queues = λ r. line-cursors (withProcess t p y) (t .«next_semaphore») (onePast processLimit p) (waitsOn r) ∙ queue-set (S .laid) p below y r refl (free-no-waiter (stateOf t p) r free) }
+      record {
+        laid = laid-cursors (laid-set (S .laid) p below hz y refl (λ k. absurd (true≢false (sym (ap isFree k)))) (λ k. hn)) (t .«next_semaphore») (onePast processLimit p) (S .laid .cursors .0) (past-below processLimit p below);
+        running = running-cursors (running-set (S .laid) p below hz y refl (S .running) (free-not-current (stateOf t p) free) refl) (t .«next_semaphore») (onePast processLimit p);
+        semaphores = refl;
+        queues = λ r. line-cursors (withProcess t p y) (t .«next_semaphore») (onePast processLimit p) (waitsOn r) ∙ queue-set (S .laid) p below y r refl (free-no-waiter (stateOf t p) r free);
+      }
     where
       p : ℕ
       p = first (freeSlots t)
+
       y : Process
       y = record { state = Suspended; priority = n }
+
       is : Found (λ x. isFree (stateOf t x)) processLimit (t .«next_process») p
       is = found (λ x. isFree (stateOf t x)) processLimit (t .«next_process») (S .laid .cursors .1) h
+
       free : isFree (stateOf t p) ≡ true
       free = is .passes
+
       below : p < processLimit
       below = is .below
+
       neither : (a b : Bool) → a ≡ false → b ≡ false → (a || b) ≡ true → ⊥
       neither a b x z w = true≢false (sym w ∙ ap (λ (c : Bool). c || b) x ∙ z)
+
       hz : 0 ≢ p
       hz e =
           let f0 : isFree (stateOf t 0) ≡ true = ap (λ (x : ℕ). isFree (stateOf t x)) e ∙ free in
@@ -81,15 +89,21 @@ module _ {t : Tables} (S : Sound t) where
     where
       s : ℕ
       s = first (freeSemaphores t)
+
       x : Semaphore
       x = record { used = true; count = c }
+
       is : Found (λ r. not (isUsed t r)) semaphoreLimit (t .«next_semaphore») s
       is = found (λ r. not (isUsed t r)) semaphoreLimit (t .«next_semaphore») (S .laid .cursors .0) h
+
       below : s < semaphoreLimit
       below = is .below
+
       below′ : s < length (t .semaphores)
       below′ = let e : length (t .semaphores) ≡ semaphoreLimit = S .laid .entries in omega (arith, below)
+
       seen : (r : ℕ) → queue (newSemaphore t s c .tables) r ≡ queue t r
       seen r = line-cursors (withSemaphore t s x) (onePast semaphoreLimit s) (t .«next_process») (waitsOn r) ∙ line-entry t s x (waitsOn r)
+
       empty : queue t s ≡ []
       empty = subst (λ (k : ℤ). Counted k (queue t s)) (S .queued .unused s (not-true (isUsed t s) (is .passes))) (S .queued .counted s)

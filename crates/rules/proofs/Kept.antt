@@ -1,4 +1,4 @@
--- Every call keeps the tables sound, and every count within 32 bits. Assumes nothing.
+-- Every call keeps the tables sound. Assumes nothing.
 use Prim.Native.Nat.{ℕ}
 use mathlib.Core.Bool.{true, false, _||_, true≢false}
 use mathlib.Core.List.{List, [], _∷_}

@@ -9,3 +9,5 @@ pub mod Found
 pub mod Refusals
 pub mod Does
 pub mod Kept
+pub mod Fits
+pub mod Session

@@ -37,47 +37,54 @@ pub record Moved (t t′ : Tables) (p : ℕ) (st : State) : Type 0 where
 
 pub moved-state : (t : Tables) (p : ℕ) (st : State) → p < length (t .processes) → Moved t (withState t p st) p st
 moved-state t p st hp =
-    record { same = ap (λ (r : Process). r .state) (at-same t p (record { state = st; priority = priorityOf t p }) hp)
-           ; other = λ x h. ap (λ (r : Process). r .state) (at-other t p (record { state = st; priority = priorityOf t p }) x h)
-           ; priority = priority-kept t p st
-           ; leaves = λ test h. line-leave t p (record { state = st; priority = priorityOf t p }) test hp h
-           ; order = λ q. refl
-           ; places = refl
-           ; slots = length-set (t .processes) p (record { state = st; priority = priorityOf t p })
-           ; semaphores = refl
-           ; cursors = (refl, refl) }
+    record {
+      same = ap (λ (r : Process). r .state) (at-same t p (record { state = st; priority = priorityOf t p }) hp);
+      other = λ x h. ap (λ (r : Process). r .state) (at-other t p (record { state = st; priority = priorityOf t p }) x h);
+      priority = priority-kept t p st;
+      leaves = λ test h. line-leave t p (record { state = st; priority = priorityOf t p }) test hp h;
+      order = λ q. refl;
+      places = refl;
+      slots = length-set (t .processes) p (record { state = st; priority = priorityOf t p });
+      semaphores = refl;
+      cursors = (refl, refl);
+    }
 
 pub moved-join : (t : Tables) (p : ℕ) (before : ℕ → Bool) (st : State) → p < length (t .processes) → times p (t .order) ≡ 1 → Moved t (joining t p before st) p st
 unfolding joining
 moved-join t p before st hp h1 =
-    record { same = joined-same t p before st isFree hp h1
-           ; other = joined-other t p before st isFree hp h1
-           ; priority = priority-kept t p st
-           ; leaves = λ test h. line-join-other t p before st test hp h1 h
-           ; order = λ q. times-place q before p (t .order) h1
-           ; places = length-place before p (t .order) h1
-           ; slots = length-set (t .processes) p (record { state = st; priority = priorityOf t p })
-           ; semaphores = refl
-           ; cursors = (refl, refl) }
+    record {
+      same = joined-same t p before st isFree hp h1;
+      other = joined-other t p before st isFree hp h1;
+      priority = priority-kept t p st;
+      leaves = λ test h. line-join-other t p before st test hp h1 h;
+      order = λ q. times-place q before p (t .order) h1;
+      places = length-place before p (t .order) h1;
+      slots = length-set (t .processes) p (record { state = st; priority = priorityOf t p });
+      semaphores = refl;
+      cursors = (refl, refl);
+    }
 
 -- Laid tables
 
 module _ {t : Tables} (l : Laid t) where
   pub laid-moved : {t′ : Tables} {p : ℕ} {st : State} → Moved t t′ p st → p < processLimit → isFree st ≡ false → isFree (stateOf t p) ≡ false → Falling (priorityOf t) (readyList t′) → Laid t′
   laid-moved {t′} {p} {st} m hp hs h f =
-      record { slots = m .slots ∙ l .slots
-             ; entries = ap length (m .semaphores) ∙ l .entries
-             ; order = λ q. m .order q ∙ l .order q
-             ; places = m .places ∙ l .places
-             ; falling = subst (λ (r : ℕ → ℕ). Falling r (readyList t′)) (sym (fun-ext (m .priority))) f
-             ; idle = m .priority 0 ∙ l .idle
-             ; free = λ x e. m .priority x ∙ free′ x (eqb x p) refl e
-             ; live = λ x h1 e. subst (λ (n : ℕ). (1 ≤ n) × (n ≤ priorityLimit)) (sym (m .priority x)) (l .live x h1 (live′ x (eqb x p) refl e))
-             ; cursors = (rw (m .cursors .0) (l .cursors .0), rw (m .cursors .1) (l .cursors .1)) }
+      record {
+        slots = m .slots ∙ l .slots;
+        entries = ap length (m .semaphores) ∙ l .entries;
+        order = λ q. m .order q ∙ l .order q;
+        places = m .places ∙ l .places;
+        falling = subst (λ (r : ℕ → ℕ). Falling r (readyList t′)) (sym (fun-ext (m .priority))) f;
+        idle = m .priority 0 ∙ l .idle;
+        free = λ x e. m .priority x ∙ free′ x (eqb x p) refl e;
+        live = λ x h1 e. subst (λ (n : ℕ). (1 ≤ n) × (n ≤ priorityLimit)) (sym (m .priority x)) (l .live x h1 (live′ x (eqb x p) refl e));
+        cursors = (rw (m .cursors .0) (l .cursors .0), rw (m .cursors .1) (l .cursors .1));
+      }
     where
       free′ : (x : ℕ) (b : Bool) → eqb x p ≡ b → stateOf t′ x ≡ Free → priorityOf t x ≡ 0
       free′ x true e k = absurd (true≢false (sym (ap isFree (sym (m .same) ∙ ap (stateOf t′) (sym (eqb-true x p e)) ∙ k)) ∙ hs))
       free′ x false e k = l .free x (sym (m .other x (eqb-false x p e)) ∙ k)
+
       live′ : (x : ℕ) (b : Bool) → eqb x p ≡ b → isFree (stateOf t′ x) ≡ false → isFree (stateOf t x) ≡ false
       live′ x true e k = rw (eqb-true x p e) h
       live′ x false e k = ap isFree (sym (m .other x (eqb-false x p e))) ∙ k

@@ -39,24 +39,32 @@ all-ready s (f ∷ fs) t l z e = go (all-ready s fs (makeReady t f) (laid-moved 
   where
     here : waitsOn s (stateOf t f) ≡ true
     here = line-first t (waitsOn s) f fs e
+
     live : isFree (stateOf t f) ≡ false
     live = waits-live (stateOf t f) s here
+
     below : f < processLimit
     below = live-below l f live
+
     m : Moved t (makeReady t f) f Ready
     m = moved-join t f _ Ready (live-slot l f below) (live-once l f below)
+
     once : times f (f ∷ fs) ≡ 1
     once = ap (times f) (sym e) ∙ in-line l f (waitsOn s) below ∙ ap (λ (b : Bool). if b then 1 else 0) here
+
     rest : queue (makeReady t f) s ≡ fs
     rest = m .leaves (waitsOn s) refl ∙ ap (without f) e ∙ without-first f fs once
+
     go : Freed s (makeReady t f) (makeAllReady (makeReady t f) fs) → Freed s t (makeAllReady (makeReady t f) fs)
     go g =
-        record { laid = g .laid
-               ; few = g .few ∙ line-kept m isCurrent refl (waits-not-current (stateOf t f) s here)
-               ; zero = g .zero
-               ; semaphores = g .semaphores ∙ m .semaphores
-               ; gone = g .gone
-               ; others = λ r h. g .others r h ∙ line-kept m (waitsOn r) refl (waits-other (stateOf t f) s r here (λ d. h (sym d))) }
+        record {
+          laid = g .laid;
+          few = g .few ∙ line-kept m isCurrent refl (waits-not-current (stateOf t f) s here);
+          zero = g .zero;
+          semaphores = g .semaphores ∙ m .semaphores;
+          gone = g .gone;
+          others = λ r h. g .others r h ∙ line-kept m (waitsOn r) refl (waits-other (stateOf t f) s r here (λ d. h (sym d)));
+        }
 
 module _ {t : Tables} (S : Sound t) (s : ℕ) (hu : isUsed t s ≡ true) (x : Semaphore) where
   t₁ : Tables
@@ -73,5 +81,6 @@ module _ {t : Tables} (S : Sound t) (s : ℕ) (hu : isUsed t s ≡ true) (x : Se
       runs : (q : List ℕ) → queue t s ≡ q → not (isEmpty q) ≡ false → Running (makeAllReady (withSemaphore t s x) q)
       runs [] e h = running-entry (S .running) s x
       runs (p ∷ ps) e h = absurd (true≢false h)
+
       prepared : Prepared (release t s x)
       prepared = record { laid = freed .laid; few = rw (freed .few, line-entry t s x isCurrent, S .running .one) (omega arith); zero = freed .zero; runs = runs (queue t s) refl }

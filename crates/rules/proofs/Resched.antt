@@ -99,12 +99,16 @@ module _ (t : Tables) (l : Laid t) (none : currents t ≡ []) (z : Zero t) (f : 
   pub dispatch-settled : Settled t (withState t f Current)
   unfolding firstOr
   dispatch-settled =
-      record { laid = laid-moved l f-moved f-below refl (ready-live (stateOf t f) f-ready) (falling-left l f-moved refl)
-             ; running = record { one = ap length f-current
-                                ; zero = zero-moved f-moved refl z
-                                ; top = λ p k. top′ p k }
-             ; semaphores = refl
-             ; queues = λ s. line-kept f-moved (waitsOn s) refl (ready-no-waiter (stateOf t f) s f-ready) }
+      record {
+        laid = laid-moved l f-moved f-below refl (ready-live (stateOf t f) f-ready) (falling-left l f-moved refl);
+        running = record {
+          one = ap length f-current;
+          zero = zero-moved f-moved refl z;
+          top = λ p k. top′ p k;
+        };
+        semaphores = refl;
+        queues = λ s. line-kept f-moved (waitsOn s) refl (ready-no-waiter (stateOf t f) s f-ready);
+      }
     where
       top′ : (p : ℕ) → stateOf (withState t f Current) p ≡ Ready → priorityOf (withState t f Current) p ≤ priorityOf (withState t f Current) (currentOf (withState t f Current))
       top′ p k =
@@ -140,9 +144,11 @@ module _ (t : Tables) (l : Laid t) (few : length (currents t) ≤ 1) (z : Zero t
   -- nobody is ready
   alone : readyList t ≡ [] → Running t
   alone e =
-      record { one = let a : 1 ≤ length (currents t) = zero-there (isCurrent (stateOf t 0)) refl (nobody e 0) in omega arith
-             ; zero = z
-             ; top = λ p h. absurd (true≢false (sym (ap isReady h) ∙ nobody e p)) }
+      record {
+        one = let a : 1 ≤ length (currents t) = zero-there (isCurrent (stateOf t 0)) refl (nobody e 0) in omega arith;
+        zero = z;
+        top = λ p h. absurd (true≢false (sym (ap isReady h) ∙ nobody e p));
+      }
     where
       zero-there : (b : Bool) → isCurrent (stateOf t 0) ≡ b → isReady (stateOf t 0) ≡ false → 1 ≤ length (currents t)
       zero-there true h k =
@@ -154,12 +160,14 @@ module _ (t : Tables) (l : Laid t) (few : length (currents t) ≤ 1) (z : Zero t
   above : (c f : ℕ) (fs cs : List ℕ) → currents t ≡ c ∷ cs → readyList t ≡ f ∷ fs → priorityOf t f < priorityOf t c → Running t
   unfolding firstOr
   above c f fs cs k e h =
-      record { one = let a : length (currents t) ≡ length (c ∷ cs) = ap length k in omega arith
-             ; zero = z
-             ; top = λ p d.
-                 let b : priorityOf t (currentOf t) ≡ priorityOf t c = ap (λ (r : List ℕ). priorityOf t (first r)) k in
-                 let a : priorityOf t p ≤ priorityOf t f = ready-top l f fs e p (ap isReady d) in
-                 omega arith }
+      record {
+        one = let a : length (currents t) ≡ length (c ∷ cs) = ap length k in omega arith;
+        zero = z;
+        top = λ p d.
+            let b : priorityOf t (currentOf t) ≡ priorityOf t c = ap (λ (r : List ℕ). priorityOf t (first r)) k in
+            let a : priorityOf t p ≤ priorityOf t f = ready-top l f fs e p (ap isReady d) in
+            omega arith;
+      }
 
   put-back : (low : ℕ → Bool) (c : ℕ) (cs : List ℕ) → currents t ≡ c ∷ cs → (c < processLimit → Falling (priorityOf t) (readyList (readyBefore low t c))) → Settled t (startFirst (readyBefore low t c) (readyList (readyBefore low t c)))
   put-back low c cs k fall =
@@ -169,12 +177,16 @@ module _ (t : Tables) (l : Laid t) (few : length (currents t) ≤ 1) (z : Zero t
     where
       here : isCurrent (stateOf t c) ≡ true
       here = line-first t isCurrent c cs k
+
       live : isFree (stateOf t c) ≡ false
       live = current-live (stateOf t c) here
+
       below : c < processLimit
       below = live-below l c live
+
       m : Moved t (readyBefore low t c) c Ready
       m = moved-join t c _ Ready (live-slot l c below) (live-once l c below)
+
       gone : currents (readyBefore low t c) ≡ []
       gone = m .leaves isCurrent refl ∙ ap (without c) (k ∙ ap (λ (r : List ℕ). c ∷ r) (one-or-none c cs (rw k at few))) ∙ without-only c
 

@@ -43,23 +43,28 @@ module _ {t : Tables} (l : Laid t) (p : ℕ) (below : p < processLimit) (hz : 0 
   pub laid-set : (y .state ≡ Free → y .priority ≡ 0) → (isFree (y .state) ≡ false → (1 ≤ y .priority) × (y .priority ≤ priorityLimit)) → Laid (withProcess t p y)
   unfolding without
   laid-set hf hl =
-      record { slots = length-set (t .processes) p y ∙ l .slots
-             ; entries = l .entries
-             ; places = l .places
-             ; order = l .order
-             ; falling = rw ready-set (falling-ext (priorityOf t) (priorityOf (withProcess t p y)) (λ x. not (eqb x p)) off-p (readyList t) (falling-filter (priorityOf t) (λ x. not (eqb x p)) (readyList t) (l .falling)))
-             ; idle = ap (λ (r : Process). r .priority) (at-other t p y 0 hz) ∙ l .idle
-             ; free = λ x. free′ x (eqb x p) refl
-             ; live = λ x h1. live′ x h1 (eqb x p) refl
-             ; cursors = l .cursors }
+      record {
+        slots = length-set (t .processes) p y ∙ l .slots;
+        entries = l .entries;
+        places = l .places;
+        order = l .order;
+        falling = rw ready-set (falling-ext (priorityOf t) (priorityOf (withProcess t p y)) (λ x. not (eqb x p)) off-p (readyList t) (falling-filter (priorityOf t) (λ x. not (eqb x p)) (readyList t) (l .falling)));
+        idle = ap (λ (r : Process). r .priority) (at-other t p y 0 hz) ∙ l .idle;
+        free = λ x. free′ x (eqb x p) refl;
+        live = λ x h1. live′ x h1 (eqb x p) refl;
+        cursors = l .cursors;
+      }
     where
       here : process (withProcess t p y) p ≡ y
       here = at-same t p y (live-slot l p below)
+
       free′ : (x : ℕ) (b : Bool) → eqb x p ≡ b → stateOf (withProcess t p y) x ≡ Free → priorityOf (withProcess t p y) x ≡ 0
       free′ x true e k = ap (priorityOf (withProcess t p y)) (eqb-true x p e) ∙ ap (λ (r : Process). r .priority) here ∙ hf (ap (λ (r : Process). r .state) (sym here) ∙ ap (stateOf (withProcess t p y)) (sym (eqb-true x p e)) ∙ k)
       free′ x false e k = ap (λ (r : Process). r .priority) (at-other t p y x (eqb-false x p e)) ∙ l .free x (ap (λ (r : Process). r .state) (sym (at-other t p y x (eqb-false x p e))) ∙ k)
+
       Fine : ℕ → Type 0
       Fine n = (1 ≤ n) × (n ≤ priorityLimit)
+
       live′ : (x : ℕ) → 1 ≤ x → (b : Bool) → eqb x p ≡ b → isFree (stateOf (withProcess t p y) x) ≡ false → (1 ≤ priorityOf (withProcess t p y) x) × (priorityOf (withProcess t p y) x ≤ priorityLimit)
       live′ x h1 true e k = subst Fine (ap (λ (r : Process). r .priority) (sym here) ∙ ap (priorityOf (withProcess t p y)) (sym (eqb-true x p e))) (hl (ap (λ (r : Process). isFree (r .state)) (sym here) ∙ ap (λ (n : ℕ). isFree (stateOf (withProcess t p y) n)) (sym (eqb-true x p e)) ∙ k))
       live′ x h1 false e k = subst Fine (ap (λ (r : Process). r .priority) (sym (at-other t p y x (eqb-false x p e)))) (l .live x h1 (ap (λ (r : Process). isFree (r .state)) (sym (at-other t p y x (eqb-false x p e))) ∙ k))
@@ -71,16 +76,21 @@ module _ {t : Tables} (l : Laid t) (p : ℕ) (below : p < processLimit) (hz : 0 
   pub running-set : Running t → isCurrent (stateOf t p) ≡ false → isCurrent (y .state) ≡ false → Running (withProcess t p y)
   unfolding firstOr
   running-set r hc hy =
-      record { one = ap length same ∙ r .one
-             ; zero = zero-set (r .zero)
-             ; top = λ q k. top′ q k (eqb q p) refl }
+      record {
+        one = ap length same ∙ r .one;
+        zero = zero-set (r .zero);
+        top = λ q k. top′ q k (eqb q p) refl;
+      }
     where
       same : currents (withProcess t p y) ≡ currents t
       same = line-leave t p y isCurrent (live-slot l p below) hy ∙ line-absent t p isCurrent hc
+
       c-current : isCurrent (stateOf t (currentOf t)) ≡ true
       c-current = line-first t isCurrent (currentOf t) [] (current-only r)
+
       c-other : currentOf t ≢ p
       c-other e = true≢false (sym c-current ∙ ap (λ (n : ℕ). isCurrent (stateOf t n)) e ∙ hc)
+
       top′ : (q : ℕ) → stateOf (withProcess t p y) q ≡ Ready → (b : Bool) → eqb q p ≡ b → priorityOf (withProcess t p y) q ≤ priorityOf (withProcess t p y) (currentOf (withProcess t p y))
       top′ q k true e = absurd (true≢false (sym (ap isReady (ap (λ (r : Process). r .state) (sym (at-same t p y (live-slot l p below))) ∙ ap (stateOf (withProcess t p y)) (sym (eqb-true q p e)) ∙ k)) ∙ hr))
       top′ q k false e =
@@ -107,6 +117,7 @@ module _ {t : Tables} (S : Sound t) (p : ℕ) (below : p < processLimit) (hz : 0
       few : (b : Bool) → isCurrent (stateOf t p) ≡ b → length (currents (withProcess t p y)) ≤ 1
       few true e = rw (none-set (S .laid) p below hz y hr (S .running) e hy) (omega arith)
       few false e = let k : length (currents (withProcess t p y)) ≡ 1 = running-set (S .laid) p below hz y hr (S .running) e hy .one in omega arith
+
       prepared : Prepared (stop v t p y)
       prepared = record { laid = laid-set (S .laid) p below hz y hr hf hl; few = few (isCurrent (stateOf t p)) refl; zero = zero-set (S .laid) p below hz y hr (S .running .zero); runs = λ e. running-set (S .laid) p below hz y hr (S .running) e hy }
 
@@ -121,14 +132,19 @@ module _ {t : Tables} (S : Sound t) (p s : ℕ) (hz : 0 ≢ p) (h : stateOf t p 
     where
       x : Semaphore
       x = record { used = isUsed t s; count = sucℤ (countOf t s) }
+
       t₁ : Tables
       t₁ = withSemaphore t s x
+
       l₁ : Laid t₁
       l₁ = laid-entry (S .laid) s x
+
       below : p < processLimit
       below = live-below (S .laid) p (ap isFree h)
+
       runs : Running (withProcess t₁ p freeSlot)
       runs = running-set l₁ p below hz freeSlot refl (running-entry (S .running) s x) (ap isCurrent h) refl
+
       prepared : Prepared (stop v t₁ p freeSlot)
       prepared = record { laid = laid-set l₁ p below hz freeSlot refl (λ _. refl) (λ k. absurd (true≢false k)); few = omega (arith, runs .one); zero = zero-set l₁ p below hz freeSlot refl (S .running .zero); runs = λ e. runs }
 
@@ -147,8 +163,10 @@ resume-settled {t} S p h v =
   where
     live : isFree (stateOf t p) ≡ false
     live = suspended-live (stateOf t p) h
+
     below : p < processLimit
     below = live-below (S .laid) p live
+
     m : Moved t (makeReady t p) p Ready
     m = moved-join t p _ Ready (live-slot (S .laid) p below) (live-once (S .laid) p below)
 

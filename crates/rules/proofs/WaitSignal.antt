@@ -68,18 +68,25 @@ module _ {t : Tables} (S : Sound t) (s : ℕ) (hu : isUsed t s ≡ true) where
     where
       p : ℕ
       p = currentOf t
+
       t₁ : Tables
       t₁ = withCount t s c
+
       l₁ : Laid t₁
       l₁ = laid-entry (S .laid) s (record { used = isUsed t s; count = c })
+
       here : isCurrent (stateOf t p) ≡ true
       here = line-first t isCurrent p [] (current-only (S .running))
+
       below : p < processLimit
       below = live-below (S .laid) p (current-live (stateOf t p) here)
+
       m : Moved t₁ (makeWait t₁ p s) p (Waiting s)
       m = moved-join t₁ p _ (Waiting s) (live-slot l₁ p below) (live-once l₁ p below)
+
       none : currents (makeWait t₁ p s) ≡ []
       none = m .leaves isCurrent refl ∙ ap (without p) (line-entry t s _ isCurrent ∙ current-only (S .running)) ∙ without-only p
+
       g : Prepared (switching (pos 1) (makeWait t₁ p s))
       g = record { laid = laid-moved l₁ m below refl (current-live (stateOf t p) here) (falling-left l₁ m refl); few = rw none (omega arith); zero = zero-other m hz (S .running .zero); runs = λ h. absurd (true≢false h) }
 
@@ -89,6 +96,7 @@ module _ {t : Tables} (S : Sound t) (s : ℕ) (hu : isUsed t s ≡ true) where
     where
       c : ℤ
       c = predℤ (countOf t s)
+
       go : (b : Bool) → below0 c ≡ b → Effect t (finish (if b then switching (pos 1) (makeWait (withCount t s c) (currentOf t) s) else plain (pos 1) (withCount t s c)) .tables) s (isUsed t s) c (if b then queue t s ++ currentOf t ∷ [] else queue t s)
       go true e = blocks c (λ z. eqb-false (currentOf t) 0 (block-not-zero (countOf t s) (eqb (currentOf t) 0) h e) (sym z))
       go false e = only c
@@ -102,20 +110,28 @@ module _ {t : Tables} (S : Sound t) (s : ℕ) (hu : isUsed t s ≡ true) where
     where
       t₁ : Tables
       t₁ = withCount t s c
+
       l₁ : Laid t₁
       l₁ = laid-entry (S .laid) s (record { used = isUsed t s; count = c })
+
       here : waitsOn s (stateOf t f) ≡ true
       here = line-first t (waitsOn s) f fs e
+
       live : isFree (stateOf t f) ≡ false
       live = waits-live (stateOf t f) s here
+
       below : f < processLimit
       below = live-below (S .laid) f live
+
       once : times f (f ∷ fs) ≡ 1
       once = ap (times f) (sym e) ∙ in-line (S .laid) f (waitsOn s) below ∙ ap (λ (b : Bool). if b then 1 else 0) here
+
       m : Moved t₁ (makeReady t₁ f) f Ready
       m = moved-join t₁ f _ Ready (live-slot l₁ f below) (live-once l₁ f below)
+
       same : currents (makeReady t₁ f) ≡ currents t
       same = line-kept m isCurrent refl (waits-not-current (stateOf t f) s here) ∙ line-entry t s _ isCurrent
+
       g : Prepared (switching (pos 1) (makeReady t₁ f))
       g = record { laid = laid-moved l₁ m below refl live (falling-ready l₁ f below); few = rw (same, S .running .one) (omega arith); zero = zero-moved m refl (S .running .zero); runs = λ h. absurd (true≢false h) }
 
