@@ -4,12 +4,12 @@ use native.Mathlib.Omega.{arith}
 use mathlib.Core.Bool.{Bool, true, false, true≢false}
 use mathlib.Core.List.{List, [], _∷_, _++_}
 use mathlib.Core.Path.{_≡_, refl, sym, ap, subst, _∙_}
-use lib.Dec.{eqb, ltb}
+use lib.Dec.{eqb}
 use lib.ListN.{length, getD, length-append, List·getD-append}
 use lib.Seq.{getD-append-add}
 use borrow.Author.Tests.{lt-ltb, le-ltb, eqb-true}
 use Rattle.lists.specs.Lists.{if_then_else_, filter, times, isEmpty, firstOr, first}
-use Rattle.lists.specs.Numbers.{listed, countUp, roundFrom}
+use Rattle.lists.specs.Numbers.{listed, countUp, roundFrom, onward}
 use Rattle.lists.proofs.Bools.{below?}
 use Rattle.lists.proofs.NumberLaws.{listed-length, listed-from, listed-at}
 use Rattle.lists.proofs.Rows.{times-at}
@@ -64,10 +64,6 @@ searched f (x ∷ xs) h = go (f x) refl h (searched f xs)
 
         on : (i : ℕ) × FirstAt f xs (first (filter f xs)) i → (i : ℕ) × FirstAt f (x ∷ xs) (first (filter f xs)) i
         on (i, r) = (suc i, record { inside = let k = r .inside in omega arith; here = r .here; passes = r .passes; before = λ j l. before′ i j (r .before) l })
-
--- the number that stands i places from k on, going round
-abbrev pub onward : ℕ → ℕ → ℕ → ℕ
-onward size k i = if ltb (k + i) size then k + i else (k + i - size)
 
 pub round-length : (size k : ℕ) → k < size → length (roundFrom size k) ≡ size
 unfolding roundFrom

@@ -22,13 +22,13 @@ use Rattle.tables.specs.Sound.{Sound}
 use Rattle.tables.proofs.States.{runs-no-waiter}
 use Rattle.tables.proofs.Sentences.{waiter-used}
 use Rattle.rules.specs.Calls.{Call, Wait, Signal, MakeSemaphore, Delete, Reset, MakeProcess, Resume, Suspend, Kill, Yield, Count, below0, outside, freeSemaphores, stop, uncounted, checks, deed, finish}
+use Rattle.rules.specs.Telling.{NoneHolds}
 use Rattle.rules.proofs.Resched.{Settled}
 use Rattle.rules.proofs.Effects.{Effect}
 use Rattle.rules.proofs.WaitSignal.{wait-effect, signal-effect}
 use Rattle.rules.proofs.Release.{release-effect}
 use Rattle.rules.proofs.Slots.{stop-settled, kill-waiter, resume-settled, yield-settled, stay-settled}
 use Rattle.rules.proofs.Found.{make-process-settled, make-semaphore-effect}
-use Rattle.rules.proofs.Refusals.{NoneHolds}
 
 -- by the state of the process that is killed
 abbrev pub KillDoes : Tables → ℕ → State → Tables → Type 0

@@ -32,9 +32,10 @@ use Rattle.rules.specs.Schedule.{makeReady, makeWait}
 use Rattle.rules.specs.Answers.{valueOf, _when_}
 use Rattle.rules.specs.Calls.{Call, Wait, Signal, MakeSemaphore, Delete, Reset, MakeProcess, Resume, Suspend, Kill, Yield, Count, below0, largest, freeSemaphores, freeSlots, plain, switching, checks, deed, finish, step}
 use Rattle.rules.specs.Enter.{callOf, spare, numbered}
+use Rattle.rules.specs.Telling.{NoneHolds}
 use Rattle.rules.proofs.Resched.{Settled}
 use Rattle.rules.proofs.Effects.{Effect, settled-shows}
-use Rattle.rules.proofs.Refusals.{NoneHolds, unless-cases}
+use Rattle.rules.proofs.Refusals.{unless-cases}
 use Rattle.rules.proofs.Does.{KillDoes, Does, does}
 
 -- every count is a signed number of 32 bits

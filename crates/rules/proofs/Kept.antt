@@ -14,10 +14,11 @@ use Rattle.tables.proofs.Sentences.{sentences}
 use Rattle.rules.specs.Answers.{_when_}
 use Rattle.rules.specs.Calls.{Call, Wait, Signal, MakeSemaphore, Delete, Reset, MakeProcess, Resume, Suspend, Kill, Yield, Count, below0, checks, deed, finish, step}
 use Rattle.rules.specs.Enter.{callOf, spare, numbered}
+use Rattle.rules.specs.Telling.{NoneHolds}
 use Rattle.rules.proofs.Effects.{Effect, effect-sound, settled-sound}
 use Rattle.rules.proofs.WaitSignal.{counted-wait, counted-signal}
 use Rattle.rules.proofs.Slots.{counted-kill}
-use Rattle.rules.proofs.Refusals.{NoneHolds, unless-cases}
+use Rattle.rules.proofs.Refusals.{unless-cases}
 use Rattle.rules.proofs.Does.{KillDoes, Does, does}
 
 -- Sound

@@ -11,3 +11,4 @@ pub mod Does
 pub mod Kept
 pub mod Fits
 pub mod Session
+pub mod Seats

@@ -13,10 +13,7 @@ use Rattle.rules.specs.declared.Outcome.{Outcome}
 use Rattle.rules.specs.Answers.{refused, Check, _when_, unless}
 use Rattle.rules.specs.Calls.{Call, Deed, checks, deed, finish, step}
 use Rattle.rules.specs.Enter.{callOf, spare, numbered}
-
-abbrev pub NoneHolds : List Check → Type 0
-NoneHolds [] = Unit
-NoneHolds (c ∷ cs) = (c .holds ≡ false) × NoneHolds cs
+use Rattle.rules.specs.Telling.{NoneHolds}
 
 -- what is true of every refusal, and of what is done where no check holds, is true of the call
 pub unless-cases : (t : Tables) (P : Outcome → Type 0) → ((n : ℕ) → P (refused n t)) → (cs : List Check) (o : Outcome) → (NoneHolds cs → P o) → P (unless t cs o)
