@@ -19,7 +19,7 @@ use Rattle.tables.specs.Limits.{processLimit, priorityLimit}
 use Rattle.tables.specs.States.{isFree, isCurrent, isReady, isSuspended, waitsOn}
 use Rattle.tables.specs.Readers.{freeSlot, freeSemaphore, stateOf, priorityOf, isUsed, countOf, queue, currentOf}
 use Rattle.tables.specs.Sound.{Sound}
-use Rattle.tables.proofs.States.{runs-no-waiter}
+use Rattle.tables.proofs.States.{is-suspended, runs-no-waiter}
 use Rattle.tables.proofs.Sentences.{waiter-used}
 use Rattle.rules.specs.Calls.{Call, Wait, Signal, MakeSemaphore, Delete, Reset, MakeProcess, Resume, Suspend, Kill, Yield, Count, below0, outside, freeSemaphores, stop, uncounted, checks, deed, finish}
 use Rattle.rules.specs.Telling.{NoneHolds}
@@ -91,15 +91,15 @@ module _ {t : Tables} (S : Sound t) where
   does (Wait a) (h, (u, (k, z))) = still (used a u) (wait-effect S (natAbs a) (used a u) k)
   does (Signal a) (h, (u, z)) = still (used a u) (signal-effect S (natAbs a) (used a u))
   does (MakeSemaphore a) (h, (k, z)) = make-semaphore-effect S a k
-  does (Delete a) (h, (u, z)) = release-effect S (natAbs a) (used a u) freeSemaphore
-  does (Reset a b) (h, (k, (u, z))) = release-effect S (natAbs a) (used a u) (record { used = true; count = b })
+  does (Delete a) (h, (u, z)) = release-effect S (natAbs a) freeSemaphore (used a u)
+  does (Reset a b) (h, (k, (u, z))) = release-effect S (natAbs a) (record { used = true; count = b }) (used a u)
   does (MakeProcess a) (h, (k, z)) = make-process-settled S (natAbs a) (priority-inside a h) k
-  does (Resume a) (h, (k, (m, z))) = resume-settled S (natAbs a) (not-false (isSuspended (stateOf t (natAbs a))) m) (pos (priorityOf t (natAbs a)))
+  does (Resume a) (h, (k, (m, z))) = resume-settled S (natAbs a) (is-suspended (stateOf t (natAbs a)) (not-false (isSuspended (stateOf t (natAbs a))) m)) (pos (priorityOf t (natAbs a)))
   does (Suspend a) (h, (n, (k, (m, z)))) =
       let p : ℕ = natAbs a in
       let hz : 0 ≢ p = not-null p n in
       stop-settled S p (inside processLimit a h) hz (record { state = Suspended; priority = priorityOf t p }) refl refl (λ r. refl) (λ e. absurd (true≢false (sym (ap isFree e)))) (λ e. S .laid .live p (omega arith) k)
       (λ r. runs-no-waiter (stateOf t p) r (not-false (isReady (stateOf t p) || isCurrent (stateOf t p)) m)) (pos (priorityOf t p))
   does (Kill a) (h, (n, (k, z))) = kill-does (natAbs a) (stateOf t (natAbs a)) refl (inside processLimit a h) (not-null (natAbs a) n) k
-  does Yield z = yield-settled S
+  does Yield z = yield-settled S (pos 1)
   does (Count a) z = stay-settled S

@@ -11,7 +11,7 @@ use Rattle.lists.specs.Lists.{without, times, Falling}
 use Rattle.lists.proofs.ListLaws.{times-place, length-place}
 use Rattle.lists.proofs.FallingLaws.{falling-filter, falling-put}
 use Rattle.tables.specs.declared.State.{State}
-use Rattle.tables.specs.declared.State.the-variants.{Free}
+use Rattle.tables.specs.declared.State.the-variants.{Free, Ready}
 use Rattle.tables.specs.declared.Process.{Process}
 use Rattle.tables.specs.declared.Tables.{Tables}
 use Rattle.tables.specs.Limits.{processLimit, priorityLimit}
@@ -19,8 +19,9 @@ use Rattle.tables.specs.States.{isFree, isReady}
 use Rattle.tables.specs.Readers.{stateOf, priorityOf, line, readyList}
 use Rattle.tables.specs.Setters.{withState}
 use Rattle.tables.specs.Sound.{Laid}
-use Rattle.tables.proofs.LineLaws.{at-same, at-other, priority-kept, line-leave, live-slot, live-once}
+use Rattle.tables.proofs.LineLaws.{at-same, at-other, priority-kept, line-leave, line-absent, live-slot, live-once}
 use Rattle.rules.specs.Schedule.{joining, readyBefore, makeReady}
+use Rattle.rules.specs.Telling.{behind}
 use Rattle.rules.proofs.Joins.{joined-same, joined-other, line-join-other, ready-joined}
 
 -- in t′ process p is in state st, and the rest is as in t
@@ -107,3 +108,17 @@ module _ {t : Tables} (l : Laid t) where
       falling-joined (λ x. ltb (priorityOf t x) (priorityOf t p)) p hp
       (λ x e. let k : priorityOf t x < priorityOf t p = ltb-true (priorityOf t x) (priorityOf t p) e in omega arith)
       (λ x e. ltb-false (priorityOf t x) (priorityOf t p) e)
+
+  -- p becomes ready
+
+  pub ready-moved : (p : ℕ) → p < processLimit → Moved t (makeReady t p) p Ready
+  ready-moved p below = moved-join t p _ Ready (live-slot l p below) (live-once l p below)
+
+  pub laid-ready : (p : ℕ) → p < processLimit → isFree (stateOf t p) ≡ false → Laid (makeReady t p)
+  laid-ready p below h = laid-moved (ready-moved p below) below refl h (falling-ready p below)
+
+  -- behind every ready one of equal or higher priority
+  pub ready-behind : (p : ℕ) → p < processLimit → isReady (stateOf t p) ≡ false → readyList (makeReady t p) ≡ behind (priorityOf t) p (readyList t)
+  ready-behind p below h =
+      ready-joined (λ x. ltb (priorityOf t x) (priorityOf t p)) t p (live-slot l p below) (live-once l p below)
+      ∙ ap (behind (priorityOf t) p) (line-absent t p isReady h)

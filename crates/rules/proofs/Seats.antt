@@ -18,12 +18,11 @@ use Rattle.tables.specs.Readers.{stateOf, priorityOf, line, readyList, queue, c
 use Rattle.tables.specs.Setters.{withCursors, withProcess, withSemaphore, withState}
 use Rattle.tables.specs.Sound.{Laid, Sound}
 use Rattle.tables.proofs.States.{is-current, is-ready, waits-on}
-use Rattle.tables.proofs.LineLaws.{line-leave, line-absent, line-first, live-below, live-slot, live-once, in-line}
+use Rattle.tables.proofs.LineLaws.{line-leave, line-first, live-below, live-slot, live-once, in-line}
 use Rattle.tables.proofs.Sentences.{current-only, current-is, current-below}
 use Rattle.rules.specs.Schedule.{makeReady, makeAllReady, makeWait, startFirst, switch, reschedule}
 use Rattle.rules.specs.Telling.{seats, seated, behind, allBehind, headRuns, reseat}
-use Rattle.rules.proofs.Joins.{ready-joined}
-use Rattle.rules.proofs.Moves.{Moved, moved-state, moved-join, laid-moved, falling-ready}
+use Rattle.rules.proofs.Moves.{Moved, moved-state, moved-join, ready-moved, laid-ready, ready-behind}
 use Rattle.rules.proofs.Resched.{line-kept, line-enter}
 use Rattle.rules.proofs.Effects.{line-entry, laid-entry}
 
@@ -43,21 +42,9 @@ pub seats-set : (t : Tables) (p : ℕ) (y : Process) → p < length (t .processe
     → seats (withProcess t p y) ≡ seated (without p (readyList t)) (without p (currents t))
 seats-set t p y hp hr hc = seats-of (line-leave t p y isReady hp hr) (line-leave t p y isCurrent hp hc)
 
-module _ {t : Tables} (l : Laid t) (p : ℕ) (below : p < processLimit) where
-  pub ready-moved : Moved t (makeReady t p) p Ready
-  ready-moved = moved-join t p _ Ready (live-slot l p below) (live-once l p below)
-
-  pub ready-behind : isReady (stateOf t p) ≡ false → readyList (makeReady t p) ≡ behind (priorityOf t) p (readyList t)
-  ready-behind h =
-      ready-joined (λ x. ltb (priorityOf t x) (priorityOf t p)) t p (live-slot l p below) (live-once l p below)
-      ∙ ap (behind (priorityOf t) p) (line-absent t p isReady h)
-
-  -- p becomes ready that was neither ready nor current
-  pub seats-makeReady : isReady (stateOf t p) ≡ false → isCurrent (stateOf t p) ≡ false → seats (makeReady t p) ≡ seated (behind (priorityOf t) p (readyList t)) (currents t)
-  seats-makeReady h k = seats-of (ready-behind h) (line-kept ready-moved isCurrent refl k)
-
-  pub laid-ready : isFree (stateOf t p) ≡ false → Laid (makeReady t p)
-  laid-ready h = laid-moved l ready-moved below refl h (falling-ready l p below)
+-- p becomes ready that was neither ready nor current
+pub seats-makeReady : {t : Tables} (l : Laid t) (p : ℕ) → p < processLimit → isReady (stateOf t p) ≡ false → isCurrent (stateOf t p) ≡ false → seats (makeReady t p) ≡ seated (behind (priorityOf t) p (readyList t)) (currents t)
+seats-makeReady l p below h k = seats-of (ready-behind l p below h) (line-kept (ready-moved l p below) isCurrent refl k)
 
 -- every waiter of s becomes ready
 pub seats-makeAllReady : (s : ℕ) (q : List ℕ) {t : Tables} → Laid t → queue t s ≡ q → seats (makeAllReady t q) ≡ seated (allBehind (priorityOf t) q (readyList t)) (currents t)

@@ -13,22 +13,21 @@ use Rattle.lists.specs.Lists.{if_then_else_, without, times, firstOr, first}
 use Rattle.lists.proofs.Bools.{not-true}
 use Rattle.lists.proofs.ListLaws.{length-without, without-only, times-only, times-empty, length-empty}
 use Rattle.lists.proofs.FallingLaws.{falling-filter, falling-ext}
-use Rattle.tables.specs.declared.State.the-variants.{Free, Ready, Waiting}
+use Rattle.tables.specs.declared.State.the-variants.{Free, Ready, Suspended, Waiting}
 use Rattle.tables.specs.declared.Process.{Process}
 use Rattle.tables.specs.declared.Semaphore.{Semaphore}
 use Rattle.tables.specs.declared.Tables.{Tables}
 use Rattle.tables.specs.Limits.{processLimit, priorityLimit}
-use Rattle.tables.specs.States.{isFree, isCurrent, isReady, isSuspended, waitsOn}
+use Rattle.tables.specs.States.{isFree, isCurrent, isReady, waitsOn}
 use Rattle.tables.specs.Readers.{freeSlot, process, stateOf, priorityOf, isUsed, countOf, readyList, queue, currents, currentOf}
 use Rattle.tables.specs.Setters.{withProcess, withSemaphore, withCount}
 use Rattle.tables.specs.Sound.{Laid, Counted, Running, Sound}
-use Rattle.tables.proofs.States.{suspended-live, suspended-not-current, suspended-no-waiter}
-use Rattle.tables.proofs.LineLaws.{at-same, at-other, line-leave, line-absent, line-first, live-below, live-slot, live-once, used-entry, in-line}
+use Rattle.tables.proofs.LineLaws.{at-same, at-other, line-leave, line-absent, line-first, live-below, live-slot, used-entry, in-line}
 use Rattle.tables.proofs.Sentences.{waiter-used, current-only}
 use Rattle.rules.specs.Schedule.{makeReady}
 use Rattle.rules.specs.Calls.{switching, stop, finish}
-use Rattle.rules.proofs.Moves.{Moved, moved-join, laid-moved, falling-ready}
-use Rattle.rules.proofs.Resched.{Zero, Settled, line-kept, zero-moved, settled-trans, settled, Prepared, finished}
+use Rattle.rules.proofs.Moves.{ready-moved, laid-ready}
+use Rattle.rules.proofs.Resched.{Zero, Settled, line-kept, zero-moved, settled-trans, Prepared, finished}
 use Rattle.rules.proofs.Effects.{Effect, line-entry, laid-entry, running-entry, effect-done}
 
 -- A slot is written anew, off the ready list
@@ -111,42 +110,51 @@ queue-set {t} l p below y r hy hs = line-leave t p y (waitsOn r) (live-slot l p 
 
 module _ {t : Tables} (S : Sound t) (p : ℕ) (below : p < processLimit) (hz : 0 ≢ p) (y : Process) (hr : isReady (y .state) ≡ false) (hy : isCurrent (y .state) ≡ false) (hw : (r : ℕ) → waitsOn r (y .state) ≡ false)
     (hf : y .state ≡ Free → y .priority ≡ 0) (hl : isFree (y .state) ≡ false → (1 ≤ y .priority) × (y .priority ≤ priorityLimit)) (hs : (r : ℕ) → waitsOn r (stateOf t p) ≡ false) where
-  pub stop-settled : (v : ℤ) → Settled t (finish (stop v t p y) .tables)
-  stop-settled v = settled-trans refl (λ r. queue-set (S .laid) p below y r (hw r) (hs r)) (finished prepared)
-    where
-      few : (b : Bool) → isCurrent (stateOf t p) ≡ b → length (currents (withProcess t p y)) ≤ 1
-      few true e = rw (none-set (S .laid) p below hz y hr (S .running) e hy) (omega arith)
-      few false e = let k : length (currents (withProcess t p y)) ≡ 1 = running-set (S .laid) p below hz y hr (S .running) e hy .one in omega arith
+  few-left : (b : Bool) → isCurrent (stateOf t p) ≡ b → length (currents (withProcess t p y)) ≤ 1
+  few-left true e = rw (none-set (S .laid) p below hz y hr (S .running) e hy) (omega arith)
+  few-left false e = let k : length (currents (withProcess t p y)) ≡ 1 = running-set (S .laid) p below hz y hr (S .running) e hy .one in omega arith
 
-      prepared : Prepared (stop v t p y)
-      prepared = record { laid = laid-set (S .laid) p below hz y hr hf hl; few = few (isCurrent (stateOf t p)) refl; zero = zero-set (S .laid) p below hz y hr (S .running .zero); runs = λ e. running-set (S .laid) p below hz y hr (S .running) e hy }
+  pub stop-prepared : (v : ℤ) → Prepared (stop v t p y)
+  stop-prepared v =
+      record {
+        laid = laid-set (S .laid) p below hz y hr hf hl;
+        few = few-left (isCurrent (stateOf t p)) refl;
+        zero = zero-set (S .laid) p below hz y hr (S .running .zero);
+        runs = λ e. running-set (S .laid) p below hz y hr (S .running) e hy;
+      }
+
+  pub stop-settled : (v : ℤ) → Settled t (finish (stop v t p y) .tables)
+  stop-settled v = settled-trans refl (λ r. queue-set (S .laid) p below y r (hw r) (hs r)) (finished (stop-prepared v))
 
 -- A waiter stops
 
 module _ {t : Tables} (S : Sound t) (p s : ℕ) (hz : 0 ≢ p) (h : stateOf t p ≡ Waiting s) where
+  waiter-in : p < processLimit
+  waiter-in = live-below (S .laid) p (ap isFree h)
+
+  laid-count : (c : ℤ) → Laid (withCount t s c)
+  laid-count c = laid-entry (S .laid) s (record { used = isUsed t s; count = c })
+
+  waiter-runs : (c : ℤ) → Running (withProcess (withCount t s c) p freeSlot)
+  waiter-runs c = running-set (laid-count c) p waiter-in hz freeSlot refl (running-entry (S .running) s (record { used = isUsed t s; count = c })) (ap isCurrent h) refl
+
+  pub kill-prepared : (v c : ℤ) → Prepared (stop v (withCount t s c) p freeSlot)
+  kill-prepared v c =
+      record {
+        laid = laid-set (laid-count c) p waiter-in hz freeSlot refl (λ k. refl) (λ k. absurd (true≢false k));
+        few = omega (arith, waiter-runs c .one);
+        zero = zero-set (laid-count c) p waiter-in hz freeSlot refl (S .running .zero);
+        runs = λ e. waiter-runs c;
+      }
+
   pub kill-waiter : (v : ℤ) → Effect t (finish (stop v (withCount t s (sucℤ (countOf t s))) p freeSlot) .tables) s (isUsed t s) (sucℤ (countOf t s)) (without p (queue t s))
   kill-waiter v =
-      effect-done (stop v t₁ p freeSlot) s x (used-entry (S .laid) s (waiter-used S p s h)) prepared refl
-      (line-leave t₁ p freeSlot (waitsOn s) (live-slot l₁ p below) refl ∙ ap (without p) (line-entry t s x (waitsOn s)))
-      (λ r k. queue-set l₁ p below freeSlot r refl (ap (waitsOn r) h ∙ ne-eqb s r (λ d. k (sym d))) ∙ line-entry t s x (waitsOn r))
+      effect-done (stop v (withSemaphore t s x) p freeSlot) s x (used-entry (S .laid) s (waiter-used S p s h)) (kill-prepared v (sucℤ (countOf t s))) refl
+      (line-leave (withSemaphore t s x) p freeSlot (waitsOn s) (live-slot (laid-count (x .count)) p waiter-in) refl ∙ ap (without p) (line-entry t s x (waitsOn s)))
+      (λ r k. queue-set (laid-count (x .count)) p waiter-in freeSlot r refl (ap (waitsOn r) h ∙ ne-eqb s r (λ d. k (sym d))) ∙ line-entry t s x (waitsOn r))
     where
       x : Semaphore
       x = record { used = isUsed t s; count = sucℤ (countOf t s) }
-
-      t₁ : Tables
-      t₁ = withSemaphore t s x
-
-      l₁ : Laid t₁
-      l₁ = laid-entry (S .laid) s x
-
-      below : p < processLimit
-      below = live-below (S .laid) p (ap isFree h)
-
-      runs : Running (withProcess t₁ p freeSlot)
-      runs = running-set l₁ p below hz freeSlot refl (running-entry (S .running) s x) (ap isCurrent h) refl
-
-      prepared : Prepared (stop v t₁ p freeSlot)
-      prepared = record { laid = laid-set l₁ p below hz freeSlot refl (λ _. refl) (λ k. absurd (true≢false k)); few = omega (arith, runs .one); zero = zero-set l₁ p below hz freeSlot refl (S .running .zero); runs = λ e. runs }
 
 pub counted-kill : (c : ℤ) (q : List ℕ) (p : ℕ) → Counted c q → times p q ≡ 1 → Counted (sucℤ c) (without p q)
 counted-kill (pos n) q p h k = absurd (times-empty p q k h)
@@ -155,23 +163,30 @@ counted-kill (negsuc (suc n)) q p h k = let e : suc (length (without p q)) ≡ l
 
 -- A process is made ready
 
-pub resume-settled : {t : Tables} → Sound t → (p : ℕ) → isSuspended (stateOf t p) ≡ true → (v : ℤ) → Settled t (finish (switching v (makeReady t p)) .tables)
-resume-settled {t} S p h v =
-    settled-trans (m .semaphores) (λ s. line-kept m (waitsOn s) refl (suspended-no-waiter (stateOf t p) s h))
-    (settled (makeReady t p) (laid-moved (S .laid) m below refl live (falling-ready (S .laid) p below))
-    (rw (line-kept m isCurrent refl (suspended-not-current (stateOf t p) h), S .running .one) (omega arith)) (zero-moved m refl (S .running .zero)))
-  where
-    live : isFree (stateOf t p) ≡ false
-    live = suspended-live (stateOf t p) h
+module _ {t : Tables} (S : Sound t) (p : ℕ) (h : stateOf t p ≡ Suspended) where
+  suspended-in : p < processLimit
+  suspended-in = live-below (S .laid) p (ap isFree h)
 
-    below : p < processLimit
-    below = live-below (S .laid) p live
+  pub resume-prepared : (v : ℤ) → Prepared (switching v (makeReady t p))
+  resume-prepared v =
+      let m = ready-moved (S .laid) p suspended-in in
+      record {
+        laid = laid-ready (S .laid) p suspended-in (ap isFree h);
+        few = rw (line-kept m isCurrent refl (ap isCurrent h), S .running .one) (omega arith);
+        zero = zero-moved m refl (S .running .zero);
+        runs = λ e. absurd (true≢false e);
+      }
 
-    m : Moved t (makeReady t p) p Ready
-    m = moved-join t p _ Ready (live-slot (S .laid) p below) (live-once (S .laid) p below)
+  pub resume-settled : (v : ℤ) → Settled t (finish (switching v (makeReady t p)) .tables)
+  resume-settled v =
+      let m = ready-moved (S .laid) p suspended-in in
+      settled-trans (m .semaphores) (λ s. line-kept m (waitsOn s) refl (ap (waitsOn s) h)) (finished (resume-prepared v))
 
-pub yield-settled : {t : Tables} → Sound t → Settled t (finish (switching (pos 1) t) .tables)
-yield-settled {t} S = settled t (S .laid) (rw (S .running .one) (omega arith)) (S .running .zero)
+pub yield-prepared : {t : Tables} → Sound t → (v : ℤ) → Prepared (switching v t)
+yield-prepared S v = record { laid = S .laid; few = rw (S .running .one) (omega arith); zero = S .running .zero; runs = λ e. absurd (true≢false e) }
+
+pub yield-settled : {t : Tables} → Sound t → (v : ℤ) → Settled t (finish (switching v t) .tables)
+yield-settled S v = finished (yield-prepared S v)
 
 -- nothing happens
 

@@ -19,13 +19,13 @@ use Rattle.tables.specs.States.{isFree, isCurrent, waitsOn}
 use Rattle.tables.specs.Readers.{stateOf, isUsed, countOf, queue, currents, currentOf}
 use Rattle.tables.specs.Setters.{withCount}
 use Rattle.tables.specs.Sound.{Laid, Counted, Sound}
-use Rattle.tables.proofs.States.{current-live, current-no-waiter, waits-live, waits-not-current, waits-other}
-use Rattle.tables.proofs.LineLaws.{line-absent, line-first, live-below, live-slot, live-once, used-entry, in-line}
-use Rattle.tables.proofs.Sentences.{current-only}
+use Rattle.tables.proofs.States.{waits-on}
+use Rattle.tables.proofs.LineLaws.{line-absent, line-first, live-below, live-slot, live-once, used-entry}
+use Rattle.tables.proofs.Sentences.{sentences, current-only, current-is, current-below}
 use Rattle.rules.specs.Schedule.{makeReady, makeWait}
 use Rattle.rules.specs.Calls.{below0, plain, switching, waitOn, signalOn, finish}
 use Rattle.rules.proofs.Joins.{queue-makeWait}
-use Rattle.rules.proofs.Moves.{Moved, moved-join, laid-moved, falling-left, falling-ready}
+use Rattle.rules.proofs.Moves.{Moved, moved-join, laid-moved, falling-left, ready-moved, laid-ready}
 use Rattle.rules.proofs.Resched.{line-kept, zero-other, zero-moved, Prepared}
 use Rattle.rules.proofs.Effects.{Effect, line-entry, laid-entry, running-entry, effect-entry, effect-done}
 
@@ -60,35 +60,40 @@ module _ {t : Tables} (S : Sound t) (s : ℕ) (hu : isUsed t s ≡ true) where
       (line-entry t s _ (waitsOn s)) (λ r h. line-entry t s _ (waitsOn r))
 
   -- the caller waits at the queue's tail, and another is started
+
+  waiting-moved : (c : ℤ) → Moved (withCount t s c) (makeWait (withCount t s c) (currentOf t) s) (currentOf t) (Waiting s)
+  waiting-moved c =
+      let l : Laid (withCount t s c) = laid-entry (S .laid) s _ in
+      moved-join (withCount t s c) (currentOf t) _ (Waiting s) (live-slot l (currentOf t) (current-below S)) (live-once l (currentOf t) (current-below S))
+
+  pub wait-prepared : (c : ℤ) → 0 ≢ currentOf t → Prepared (switching (pos 1) (makeWait (withCount t s c) (currentOf t) s))
+  wait-prepared c hz =
+      record {
+        laid = laid-moved l m (current-below S) refl (ap isFree (current-is (S .running))) (falling-left l m refl);
+        few = rw none (omega arith);
+        zero = zero-other m hz (S .running .zero);
+        runs = λ h. absurd (true≢false h);
+      }
+    where
+      l : Laid (withCount t s c)
+      l = laid-entry (S .laid) s _
+      m : Moved (withCount t s c) (makeWait (withCount t s c) (currentOf t) s) (currentOf t) (Waiting s)
+      m = waiting-moved c
+      none : currents (makeWait (withCount t s c) (currentOf t) s) ≡ []
+      none = m .leaves isCurrent refl ∙ ap (without (currentOf t)) (line-entry t s _ isCurrent ∙ current-only (S .running)) ∙ without-only (currentOf t)
+
   blocks : (c : ℤ) → 0 ≢ currentOf t → Effect t (finish (switching (pos 1) (makeWait (withCount t s c) (currentOf t) s)) .tables) s (isUsed t s) c (queue t s ++ currentOf t ∷ [])
   blocks c hz =
-      effect-done _ s (record { used = isUsed t s; count = c }) (used-entry (S .laid) s hu) g (m .semaphores)
-      (queue-makeWait t₁ p s (live-slot l₁ p below) (live-once l₁ p below) ∙ ap (λ (l : List ℕ). l ++ p ∷ []) (line-absent t₁ p (waitsOn s) (current-no-waiter (stateOf t p) s here) ∙ line-entry t s _ (waitsOn s)))
-      (λ r h. line-kept m (waitsOn r) (ne-eqb s r (λ e. h (sym e))) (current-no-waiter (stateOf t p) r here) ∙ line-entry t s _ (waitsOn r))
+      effect-done _ s (record { used = isUsed t s; count = c }) (used-entry (S .laid) s hu) (wait-prepared c hz) (waiting-moved c .semaphores)
+      (queue-makeWait (withCount t s c) p s (live-slot l p (current-below S)) (live-once l p (current-below S)) ∙ ap (λ (q : List ℕ). q ++ p ∷ []) (line-absent (withCount t s c) p (waitsOn s) (idle s) ∙ line-entry t s _ (waitsOn s)))
+      (λ r h. line-kept (waiting-moved c) (waitsOn r) (ne-eqb s r (λ e. h (sym e))) (idle r) ∙ line-entry t s _ (waitsOn r))
     where
       p : ℕ
       p = currentOf t
-
-      t₁ : Tables
-      t₁ = withCount t s c
-
-      l₁ : Laid t₁
-      l₁ = laid-entry (S .laid) s (record { used = isUsed t s; count = c })
-
-      here : isCurrent (stateOf t p) ≡ true
-      here = line-first t isCurrent p [] (current-only (S .running))
-
-      below : p < processLimit
-      below = live-below (S .laid) p (current-live (stateOf t p) here)
-
-      m : Moved t₁ (makeWait t₁ p s) p (Waiting s)
-      m = moved-join t₁ p _ (Waiting s) (live-slot l₁ p below) (live-once l₁ p below)
-
-      none : currents (makeWait t₁ p s) ≡ []
-      none = m .leaves isCurrent refl ∙ ap (without p) (line-entry t s _ isCurrent ∙ current-only (S .running)) ∙ without-only p
-
-      g : Prepared (switching (pos 1) (makeWait t₁ p s))
-      g = record { laid = laid-moved l₁ m below refl (current-live (stateOf t p) here) (falling-left l₁ m refl); few = rw none (omega arith); zero = zero-other m hz (S .running .zero); runs = λ h. absurd (true≢false h) }
+      l : Laid (withCount t s c)
+      l = laid-entry (S .laid) s _
+      idle : (r : ℕ) → waitsOn r (stateOf t p) ≡ false
+      idle r = ap (waitsOn r) (current-is (S .running))
 
   pub wait-effect : (eqb (currentOf t) 0 && leZ (countOf t s) (pos 0)) ≡ false
       → Effect t (finish (waitOn t s) .tables) s (isUsed t s) (predℤ (countOf t s)) (if below0 (predℤ (countOf t s)) then queue t s ++ currentOf t ∷ [] else queue t s)
@@ -101,39 +106,38 @@ module _ {t : Tables} (S : Sound t) (s : ℕ) (hu : isUsed t s ≡ true) where
       go true e = blocks c (λ z. eqb-false (currentOf t) 0 (block-not-zero (countOf t s) (eqb (currentOf t) 0) h e) (sym z))
       go false e = only c
 
-  -- the longest waiter becomes ready
+  -- the queue's head becomes ready
+
+  head-waits : (f : ℕ) (fs : List ℕ) → queue t s ≡ f ∷ fs → stateOf t f ≡ Waiting s
+  head-waits f fs e = waits-on (stateOf t f) s (line-first t (waitsOn s) f fs e)
+
+  head-below : (f : ℕ) (fs : List ℕ) → queue t s ≡ f ∷ fs → f < processLimit
+  head-below f fs e = live-below (S .laid) f (ap isFree (head-waits f fs e))
+
+  pub signal-prepared : (c : ℤ) (f : ℕ) (fs : List ℕ) → queue t s ≡ f ∷ fs → Prepared (switching (pos 1) (makeReady (withCount t s c) f))
+  signal-prepared c f fs e =
+      record {
+        laid = laid-ready l f (head-below f fs e) (ap isFree (head-waits f fs e));
+        few = rw (line-kept m isCurrent refl (ap isCurrent (head-waits f fs e)) ∙ line-entry t s _ isCurrent, S .running .one) (omega arith);
+        zero = zero-moved m refl (S .running .zero);
+        runs = λ h. absurd (true≢false h);
+      }
+    where
+      l : Laid (withCount t s c)
+      l = laid-entry (S .laid) s _
+      m : Moved (withCount t s c) (makeReady (withCount t s c) f) f Ready
+      m = ready-moved l f (head-below f fs e)
+
   wakes : (c : ℤ) (f : ℕ) (fs : List ℕ) → queue t s ≡ f ∷ fs → Effect t (finish (switching (pos 1) (makeReady (withCount t s c) f)) .tables) s (isUsed t s) c fs
   wakes c f fs e =
-      effect-done _ s (record { used = isUsed t s; count = c }) (used-entry (S .laid) s hu) g (m .semaphores)
+      effect-done _ s (record { used = isUsed t s; count = c }) (used-entry (S .laid) s hu) (signal-prepared c f fs e) (m .semaphores)
       (m .leaves (waitsOn s) refl ∙ ap (without f) (line-entry t s _ (waitsOn s) ∙ e) ∙ without-first f fs once)
-      (λ r h. line-kept m (waitsOn r) refl (waits-other (stateOf t f) s r here (λ d. h (sym d))) ∙ line-entry t s _ (waitsOn r))
+      (λ r h. line-kept m (waitsOn r) refl (ap (waitsOn r) (head-waits f fs e) ∙ ne-eqb s r (λ d. h (sym d))) ∙ line-entry t s _ (waitsOn r))
     where
-      t₁ : Tables
-      t₁ = withCount t s c
-
-      l₁ : Laid t₁
-      l₁ = laid-entry (S .laid) s (record { used = isUsed t s; count = c })
-
-      here : waitsOn s (stateOf t f) ≡ true
-      here = line-first t (waitsOn s) f fs e
-
-      live : isFree (stateOf t f) ≡ false
-      live = waits-live (stateOf t f) s here
-
-      below : f < processLimit
-      below = live-below (S .laid) f live
-
       once : times f (f ∷ fs) ≡ 1
-      once = ap (times f) (sym e) ∙ in-line (S .laid) f (waitsOn s) below ∙ ap (λ (b : Bool). if b then 1 else 0) here
-
-      m : Moved t₁ (makeReady t₁ f) f Ready
-      m = moved-join t₁ f _ Ready (live-slot l₁ f below) (live-once l₁ f below)
-
-      same : currents (makeReady t₁ f) ≡ currents t
-      same = line-kept m isCurrent refl (waits-not-current (stateOf t f) s here) ∙ line-entry t s _ isCurrent
-
-      g : Prepared (switching (pos 1) (makeReady t₁ f))
-      g = record { laid = laid-moved l₁ m below refl live (falling-ready l₁ f below); few = rw (same, S .running .one) (omega arith); zero = zero-moved m refl (S .running .zero); runs = λ h. absurd (true≢false h) }
+      once = ap (times f) (sym e) ∙ sentences S .queuedOnce f s (head-waits f fs e)
+      m : Moved (withCount t s c) (makeReady (withCount t s c) f) f Ready
+      m = ready-moved (laid-entry (S .laid) s _) f (head-below f fs e)
 
   pub signal-effect : Effect t (finish (signalOn t s) .tables) s (isUsed t s) (sucℤ (countOf t s)) (if below0 (countOf t s) then drop 1 (queue t s) else queue t s)
   unfolding firstOr
