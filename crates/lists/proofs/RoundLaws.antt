@@ -9,7 +9,7 @@ use lib.ListN.{length, getD, length-append, List·getD-append}
 use lib.Seq.{getD-append-add}
 use borrow.Author.Tests.{lt-ltb, le-ltb, eqb-true}
 use Rattle.lists.specs.Lists.{if_then_else_, filter, times, isEmpty, firstOr, first}
-use Rattle.lists.specs.Numbers.{listed, countUp, roundFrom, onward}
+use Rattle.lists.specs.Numbers.{listed, countUp, roundFrom, onward, FirstFrom}
 use Rattle.lists.proofs.Bools.{below?}
 use Rattle.lists.proofs.NumberLaws.{listed-length, listed-from, listed-at}
 use Rattle.lists.proofs.Rows.{times-at}
@@ -80,16 +80,10 @@ round-at size k i h l =
     rw (le-ltb (k + i) size c)
     (ap (λ (m : ℕ). getD (countUp k (size - k) ++ countUp 0 k) m 0) e ∙ getD-append-add (countUp k (size - k)) (countUp 0 k) (k + i - size) 0 ∙ listed-at (λ i. i) k (k + i - size) 0 (omega arith)))
 
--- the search finds a number below the size that passes the test, and every number passed over fails it
-pub record Found (f : ℕ → Bool) (size k x : ℕ) : Type 0 where
-  pub below : x < size
-  pub passes : f x ≡ true
-  pub at : (i : ℕ) × ((i < size) × ((onward size k i ≡ x) × ((j : ℕ) → j < i → f (onward size k j) ≡ false)))
-
-pub found : (f : ℕ → Bool) (size k : ℕ) → k < size → isEmpty (filter f (roundFrom size k)) ≡ false → Found f size k (first (filter f (roundFrom size k)))
+pub found : (f : ℕ → Bool) (size k : ℕ) → k < size → isEmpty (filter f (roundFrom size k)) ≡ false → FirstFrom f size k (first (filter f (roundFrom size k)))
 found f size k h e = go (searched f (roundFrom size k) e)
   where
-    go : (i : ℕ) × FirstAt f (roundFrom size k) (first (filter f (roundFrom size k))) i → Found f size k (first (filter f (roundFrom size k)))
+    go : (i : ℕ) × FirstAt f (roundFrom size k) (first (filter f (roundFrom size k))) i → FirstFrom f size k (first (filter f (roundFrom size k)))
     go (i, r) =
         let n : length (roundFrom size k) ≡ size = round-length size k h in
         let l : i < length (roundFrom size k) = r .inside in
@@ -97,5 +91,8 @@ found f size k h e = go (searched f (roundFrom size k) e)
         record {
           below = in-round (first (filter f (roundFrom size k))) size k h (subst (λ (x : ℕ). 1 ≤ times x (roundFrom size k)) (r .here) (times-at (roundFrom size k) i l));
           passes = r .passes;
-          at = (i, (il, (sym (round-at size k i h il) ∙ r .here, λ j m. subst (λ (x : ℕ). f x ≡ false) (round-at size k j h (omega arith)) (r .before j m))));
+          places = i;
+          within = il;
+          there = sym (round-at size k i h il) ∙ r .here;
+          passedOver = λ j m. subst (λ (x : ℕ). f x ≡ false) (round-at size k j h (omega arith)) (r .before j m);
         }

@@ -1,6 +1,5 @@
 -- What each call does to the semaphores as they are seen, when no check holds. Assumes nothing.
 use Prim.Native.Nat.{ℕ, _≤_, _<_}
-use native.Mathlib.Omega.{arith}
 use mathlib.Core.Bool.{Bool, true, false, not, _||_, true≢false}
 use mathlib.Core.List.{List, [], _∷_, _++_}
 use mathlib.Core.Logic.{_≢_}
@@ -27,7 +26,7 @@ use Rattle.rules.proofs.Resched.{Settled}
 use Rattle.rules.proofs.Effects.{Effect}
 use Rattle.rules.proofs.WaitSignal.{wait-effect, signal-effect}
 use Rattle.rules.proofs.Release.{release-effect}
-use Rattle.rules.proofs.Slots.{stop-settled, kill-waiter, resume-settled, yield-settled, stay-settled}
+use Rattle.rules.proofs.Slots.{suspend-settled, free-settled, kill-waiter, resume-settled, yield-settled, stay-settled}
 use Rattle.rules.proofs.Found.{make-process-settled, make-semaphore-effect}
 
 -- by the state of the process that is killed
@@ -74,17 +73,14 @@ still : {t t′ : Tables} {s : ℕ} {c : ℤ} {q : List ℕ} → isUsed t s ≡ 
 still {t} {t′} {s} {c} {q} u E = subst (λ (b : Bool). Effect t t′ s b c q) u E
 
 module _ {t : Tables} (S : Sound t) where
-  used : (a : ℤ) → not (isUsed t (natAbs a)) ≡ false → isUsed t (natAbs a) ≡ true
+  pub used : (a : ℤ) → not (isUsed t (natAbs a)) ≡ false → isUsed t (natAbs a) ≡ true
   used a h = not-false (isUsed t (natAbs a)) h
 
-  kill-settled : (p : ℕ) → p < processLimit → 0 ≢ p → ((r : ℕ) → waitsOn r (stateOf t p) ≡ false) → Settled t (finish (stop (pos 1) t p freeSlot) .tables)
-  kill-settled p below hz hw = stop-settled S p below hz freeSlot refl refl (λ r. refl) (λ k. refl) (λ k. absurd (true≢false k)) hw (pos 1)
-
-  kill-does : (p : ℕ) (st : State) → stateOf t p ≡ st → p < processLimit → 0 ≢ p → isFree st ≡ false → KillDoes t p st (finish (stop (pos 1) (uncounted t st) p freeSlot) .tables)
+  pub kill-does : (p : ℕ) (st : State) → stateOf t p ≡ st → p < processLimit → 0 ≢ p → isFree st ≡ false → KillDoes t p st (finish (stop (pos 1) (uncounted t st) p freeSlot) .tables)
   kill-does p Free e below hz k = absurd (true≢false k)
-  kill-does p Current e below hz k = kill-settled p below hz (λ r. ap (waitsOn r) e)
-  kill-does p Ready e below hz k = kill-settled p below hz (λ r. ap (waitsOn r) e)
-  kill-does p Suspended e below hz k = kill-settled p below hz (λ r. ap (waitsOn r) e)
+  kill-does p Current e below hz k = free-settled S p below hz (λ r. ap (waitsOn r) e) (pos 1)
+  kill-does p Ready e below hz k = free-settled S p below hz (λ r. ap (waitsOn r) e) (pos 1)
+  kill-does p Suspended e below hz k = free-settled S p below hz (λ r. ap (waitsOn r) e) (pos 1)
   kill-does p (Waiting s) e below hz k = still (waiter-used S p s e) (kill-waiter S p s hz e (pos 1))
 
   pub does : (c : Call) → NoneHolds (checks t c) → Does t c (finish (deed t c) .tables)
@@ -97,9 +93,7 @@ module _ {t : Tables} (S : Sound t) where
   does (Resume a) (h, (k, (m, z))) = resume-settled S (natAbs a) (is-suspended (stateOf t (natAbs a)) (not-false (isSuspended (stateOf t (natAbs a))) m)) (pos (priorityOf t (natAbs a)))
   does (Suspend a) (h, (n, (k, (m, z)))) =
       let p : ℕ = natAbs a in
-      let hz : 0 ≢ p = not-null p n in
-      stop-settled S p (inside processLimit a h) hz (record { state = Suspended; priority = priorityOf t p }) refl refl (λ r. refl) (λ e. absurd (true≢false (sym (ap isFree e)))) (λ e. S .laid .live p (omega arith) k)
-      (λ r. runs-no-waiter (stateOf t p) r (not-false (isReady (stateOf t p) || isCurrent (stateOf t p)) m)) (pos (priorityOf t p))
+      suspend-settled S p (inside processLimit a h) (not-null p n) k (λ r. runs-no-waiter (stateOf t p) r (not-false (isReady (stateOf t p) || isCurrent (stateOf t p)) m)) (pos (priorityOf t p))
   does (Kill a) (h, (n, (k, z))) = kill-does (natAbs a) (stateOf t (natAbs a)) refl (inside processLimit a h) (not-null (natAbs a) n) k
   does Yield z = yield-settled S (pos 1)
   does (Count a) z = stay-settled S

@@ -10,8 +10,9 @@ use lib.IntN.{ℤ}
 use lib.ListN.{length}
 use borrow.Author.Tests.{eqb-false}
 use Rattle.lists.specs.Lists.{if_then_else_, isEmpty, first}
+use Rattle.lists.specs.Numbers.{FirstFrom}
 use Rattle.lists.proofs.Bools.{not-true}
-use Rattle.lists.proofs.RoundLaws.{Found, found}
+use Rattle.lists.proofs.RoundLaws.{found}
 use Rattle.tables.specs.declared.State.{State}
 use Rattle.tables.specs.declared.State.the-variants.{Suspended}
 use Rattle.tables.specs.declared.Process.{Process}
@@ -64,7 +65,7 @@ module _ {t : Tables} (S : Sound t) where
       y : Process
       y = record { state = Suspended; priority = n }
 
-      is : Found (λ x. isFree (stateOf t x)) processLimit (t .«next_process») p
+      is : FirstFrom (λ x. isFree (stateOf t x)) processLimit (t .«next_process») p
       is = found (λ x. isFree (stateOf t x)) processLimit (t .«next_process») (S .laid .cursors .1) h
 
       free : isFree (stateOf t p) ≡ true
@@ -93,7 +94,7 @@ module _ {t : Tables} (S : Sound t) where
       x : Semaphore
       x = record { used = true; count = c }
 
-      is : Found (λ r. not (isUsed t r)) semaphoreLimit (t .«next_semaphore») s
+      is : FirstFrom (λ r. not (isUsed t r)) semaphoreLimit (t .«next_semaphore») s
       is = found (λ r. not (isUsed t r)) semaphoreLimit (t .«next_semaphore») (S .laid .cursors .0) h
 
       below : s < semaphoreLimit

@@ -12,3 +12,4 @@ pub mod Kept
 pub mod Fits
 pub mod Session
 pub mod Seats
+pub mod Told

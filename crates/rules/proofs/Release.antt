@@ -40,14 +40,19 @@ all-ready s (f ∷ fs) t l z e = go (all-ready s fs (makeReady t f) (laid-ready 
   where
     waits : stateOf t f ≡ Waiting s
     waits = waits-on (stateOf t f) s (line-first t (waitsOn s) f fs e)
+
     below : f < processLimit
     below = live-below l f (ap isFree waits)
+
     m : Moved t (makeReady t f) f Ready
     m = ready-moved l f below
+
     once : times f (f ∷ fs) ≡ 1
     once = ap (times f) (sym e) ∙ in-line l f (waitsOn s) below ∙ rw (waits, eq-eqb s s refl)
+
     rest : queue (makeReady t f) s ≡ fs
     rest = m .leaves (waitsOn s) refl ∙ ap (without f) e ∙ without-first f fs once
+
     go : Freed s (makeReady t f) (makeAllReady (makeReady t f) fs) → Freed s t (makeAllReady (makeReady t f) fs)
     go g =
         record {

@@ -108,14 +108,13 @@ module _ {t : Tables} (l : Laid t) (p : ℕ) (below : p < processLimit) (hz : 0 
 pub queue-set : {t : Tables} → Laid t → (p : ℕ) → p < processLimit → (y : Process) (r : ℕ) → waitsOn r (y .state) ≡ false → waitsOn r (stateOf t p) ≡ false → queue (withProcess t p y) r ≡ queue t r
 queue-set {t} l p below y r hy hs = line-leave t p y (waitsOn r) (live-slot l p below) hy ∙ line-absent t p (waitsOn r) hs
 
-module _ {t : Tables} (S : Sound t) (p : ℕ) (below : p < processLimit) (hz : 0 ≢ p) (y : Process) (hr : isReady (y .state) ≡ false) (hy : isCurrent (y .state) ≡ false) (hw : (r : ℕ) → waitsOn r (y .state) ≡ false)
-    (hf : y .state ≡ Free → y .priority ≡ 0) (hl : isFree (y .state) ≡ false → (1 ≤ y .priority) × (y .priority ≤ priorityLimit)) (hs : (r : ℕ) → waitsOn r (stateOf t p) ≡ false) where
+module _ {t : Tables} (S : Sound t) (p : ℕ) (below : p < processLimit) (hz : 0 ≢ p) (y : Process) (hr : isReady (y .state) ≡ false) (hy : isCurrent (y .state) ≡ false) where
   few-left : (b : Bool) → isCurrent (stateOf t p) ≡ b → length (currents (withProcess t p y)) ≤ 1
   few-left true e = rw (none-set (S .laid) p below hz y hr (S .running) e hy) (omega arith)
   few-left false e = let k : length (currents (withProcess t p y)) ≡ 1 = running-set (S .laid) p below hz y hr (S .running) e hy .one in omega arith
 
-  pub stop-prepared : (v : ℤ) → Prepared (stop v t p y)
-  stop-prepared v =
+  stop-prepared : (y .state ≡ Free → y .priority ≡ 0) → (isFree (y .state) ≡ false → (1 ≤ y .priority) × (y .priority ≤ priorityLimit)) → (v : ℤ) → Prepared (stop v t p y)
+  stop-prepared hf hl v =
       record {
         laid = laid-set (S .laid) p below hz y hr hf hl;
         few = few-left (isCurrent (stateOf t p)) refl;
@@ -123,8 +122,23 @@ module _ {t : Tables} (S : Sound t) (p : ℕ) (below : p < processLimit) (hz : 0
         runs = λ e. running-set (S .laid) p below hz y hr (S .running) e hy;
       }
 
-  pub stop-settled : (v : ℤ) → Settled t (finish (stop v t p y) .tables)
-  stop-settled v = settled-trans refl (λ r. queue-set (S .laid) p below y r (hw r) (hs r)) (finished (stop-prepared v))
+  stop-settled : (v : ℤ) → Prepared (stop v t p y) → ((r : ℕ) → waitsOn r (y .state) ≡ false) → ((r : ℕ) → waitsOn r (stateOf t p) ≡ false) → Settled t (finish (stop v t p y) .tables)
+  stop-settled v P hw hs = settled-trans refl (λ r. queue-set (S .laid) p below y r (hw r) (hs r)) (finished P)
+
+module _ {t : Tables} (S : Sound t) (p : ℕ) (below : p < processLimit) (hz : 0 ≢ p) where
+  -- it is suspended
+  pub suspend-prepared : isFree (stateOf t p) ≡ false → (v : ℤ) → Prepared (stop v t p (record { state = Suspended; priority = priorityOf t p }))
+  suspend-prepared h v = stop-prepared S p below hz (record { state = Suspended; priority = priorityOf t p }) refl refl (λ e. absurd (true≢false (sym (ap isFree e)))) (λ e. S .laid .live p (omega arith) h) v
+
+  pub suspend-settled : isFree (stateOf t p) ≡ false → ((r : ℕ) → waitsOn r (stateOf t p) ≡ false) → (v : ℤ) → Settled t (finish (stop v t p (record { state = Suspended; priority = priorityOf t p })) .tables)
+  suspend-settled h hs v = stop-settled S p below hz (record { state = Suspended; priority = priorityOf t p }) refl refl v (suspend-prepared h v) (λ r. refl) hs
+
+  -- its slot is free
+  pub free-prepared : (v : ℤ) → Prepared (stop v t p freeSlot)
+  free-prepared v = stop-prepared S p below hz freeSlot refl refl (λ k. refl) (λ k. absurd (true≢false k)) v
+
+  pub free-settled : ((r : ℕ) → waitsOn r (stateOf t p) ≡ false) → (v : ℤ) → Settled t (finish (stop v t p freeSlot) .tables)
+  free-settled hs v = stop-settled S p below hz freeSlot refl refl v (free-prepared v) (λ r. refl) hs
 
 -- A waiter stops
 

@@ -45,10 +45,13 @@ counted-signal (negsuc (suc n)) [] h = absurd (omega arith)
 counted-signal (negsuc (suc n)) (x ∷ q) h = omega arith
 
 -- the caller blocks only where it isn't process 0
-block-not-zero : (c : ℤ) (b : Bool) → (b && leZ c (pos 0)) ≡ false → below0 (predℤ c) ≡ true → b ≡ false
-block-not-zero (pos zero) b h k = sym (and-true b) ∙ h
-block-not-zero (pos (suc n)) b h k = absurd (true≢false (sym k))
-block-not-zero (negsuc n) b h k = sym (and-true b) ∙ h
+pub blocks-not-null : (c : ℤ) (p : ℕ) → (eqb p 0 && leZ c (pos 0)) ≡ false → below0 (predℤ c) ≡ true → 0 ≢ p
+blocks-not-null c p h k e = eqb-false p 0 (go c (eqb p 0) h k) (sym e)
+  where
+    go : (c : ℤ) (b : Bool) → (b && leZ c (pos 0)) ≡ false → below0 (predℤ c) ≡ true → b ≡ false
+    go (pos zero) b h k = sym (and-true b) ∙ h
+    go (pos (suc n)) b h k = absurd (true≢false (sym k))
+    go (negsuc n) b h k = sym (and-true b) ∙ h
 
 -- Wait
 
@@ -77,8 +80,10 @@ module _ {t : Tables} (S : Sound t) (s : ℕ) (hu : isUsed t s ≡ true) where
     where
       l : Laid (withCount t s c)
       l = laid-entry (S .laid) s _
+
       m : Moved (withCount t s c) (makeWait (withCount t s c) (currentOf t) s) (currentOf t) (Waiting s)
       m = waiting-moved c
+
       none : currents (makeWait (withCount t s c) (currentOf t) s) ≡ []
       none = m .leaves isCurrent refl ∙ ap (without (currentOf t)) (line-entry t s _ isCurrent ∙ current-only (S .running)) ∙ without-only (currentOf t)
 
@@ -90,8 +95,10 @@ module _ {t : Tables} (S : Sound t) (s : ℕ) (hu : isUsed t s ≡ true) where
     where
       p : ℕ
       p = currentOf t
+
       l : Laid (withCount t s c)
       l = laid-entry (S .laid) s _
+
       idle : (r : ℕ) → waitsOn r (stateOf t p) ≡ false
       idle r = ap (waitsOn r) (current-is (S .running))
 
@@ -103,7 +110,7 @@ module _ {t : Tables} (S : Sound t) (s : ℕ) (hu : isUsed t s ≡ true) where
       c = predℤ (countOf t s)
 
       go : (b : Bool) → below0 c ≡ b → Effect t (finish (if b then switching (pos 1) (makeWait (withCount t s c) (currentOf t) s) else plain (pos 1) (withCount t s c)) .tables) s (isUsed t s) c (if b then queue t s ++ currentOf t ∷ [] else queue t s)
-      go true e = blocks c (λ z. eqb-false (currentOf t) 0 (block-not-zero (countOf t s) (eqb (currentOf t) 0) h e) (sym z))
+      go true e = blocks c (blocks-not-null (countOf t s) (currentOf t) h e)
       go false e = only c
 
   -- the queue's head becomes ready
@@ -125,6 +132,7 @@ module _ {t : Tables} (S : Sound t) (s : ℕ) (hu : isUsed t s ≡ true) where
     where
       l : Laid (withCount t s c)
       l = laid-entry (S .laid) s _
+
       m : Moved (withCount t s c) (makeReady (withCount t s c) f) f Ready
       m = ready-moved l f (head-below f fs e)
 
@@ -136,6 +144,7 @@ module _ {t : Tables} (S : Sound t) (s : ℕ) (hu : isUsed t s ≡ true) where
     where
       once : times f (f ∷ fs) ≡ 1
       once = ap (times f) (sym e) ∙ sentences S .queuedOnce f s (head-waits f fs e)
+
       m : Moved (withCount t s c) (makeReady (withCount t s c) f) f Ready
       m = ready-moved (laid-entry (S .laid) s _) f (head-below f fs e)
 

@@ -6,9 +6,9 @@ use mathlib.Core.Bool.{Bool, true, false}
 use mathlib.Core.List.{List, [], _∷_}
 use lib.Dec.{ltb}
 use lib.IntN.{ℤ}
-use Rattle.lists.specs.Lists.{if_then_else_, putBefore}
+use Rattle.lists.specs.Lists.{if_then_else_, putBefore, isEmpty}
 use Rattle.tables.specs.declared.Tables.{Tables}
-use Rattle.tables.specs.Readers.{isUsed, countOf, queue, readyList, currents}
+use Rattle.tables.specs.Readers.{priorityOf, isUsed, countOf, queue, readyList, currents}
 use Rattle.rules.specs.declared.Outcome.{Outcome}
 use Rattle.rules.specs.declared.Answer.the-variants.{Done}
 use Rattle.rules.specs.Answers.{Check}
@@ -61,6 +61,10 @@ unfoldable pub reseat : (ℕ → ℕ) → List ℕ → List ℕ → Seats
 reseat rank [] cs = seated [] cs
 reseat rank (f ∷ fs) [] = headRuns (f ∷ fs)
 reseat rank (f ∷ fs) (c ∷ cs) = if ltb (rank f) (rank c) then seated (f ∷ fs) (c ∷ cs) else headRuns (behind rank c (f ∷ fs))
+
+-- all waiters become ready in queue order; then one reschedule if there was any
+abbrev pub released : Tables → ℕ → Seats
+released t s = if isEmpty (queue t s) then seats t else reseat (priorityOf t) (allBehind (priorityOf t) (queue t s) (readyList t)) (currents t)
 
 -- a call on t was done with value v: semaphore s is seen as x, every other as before, and the seats are y
 pub record Changes (t : Tables) (o : Outcome) (v : ℤ) (s : ℕ) (x : Seen) (y : Seats) : Type 0 where
