@@ -10,6 +10,8 @@ pub mod Refusals
 pub mod Does
 pub mod Kept
 pub mod Fits
+pub mod Numbers
 pub mod Session
 pub mod Seats
 pub mod Told
+pub mod Cursors

@@ -6,13 +6,14 @@ use mathlib.Core.Bool.{Bool, true, false, not}
 use mathlib.Core.List.{List, [], _∷_, _++_}
 use mathlib.Core.Logic.{_≢_}
 use mathlib.Core.Path.{_≡_, refl, sym, ap, _∙_}
-use lib.Dec.{eqb}
+use lib.Dec.{eqb, ltb}
 use lib.IntN.{ℤ, pos, negsuc, sucℤ, predℤ, natAbs}
 use lib.ListN.{length, drop}
-use borrow.Author.Tests.{lt-ltb, le-ltb}
-use Rattle.lists.specs.Lists.{if_then_else_, without, first}
+use borrow.Author.Tests.{lt-ltb, le-ltb, ltb-true, ltb-false, eqb-true}
+use Rattle.lists.specs.Lists.{if_then_else_, without, putBefore, times, first, Falling}
 use Rattle.lists.specs.Numbers.{FirstFrom}
 use Rattle.lists.proofs.Bools.{not-false}
+use Rattle.lists.proofs.FallingLaws.{atMost-member}
 use Rattle.lists.proofs.RoundLaws.{found}
 use Rattle.tables.specs.declared.State.{State}
 use Rattle.tables.specs.declared.State.the-variants.{Free, Current, Ready, Suspended, Waiting}
@@ -30,7 +31,7 @@ use Rattle.rules.specs.declared.Outcome.{Outcome}
 use Rattle.rules.specs.Schedule.{switch, reschedule}
 use Rattle.rules.specs.Answers.{valueOf, done}
 use Rattle.rules.specs.Calls.{Call, Wait, Signal, MakeSemaphore, Delete, Reset, MakeProcess, Resume, Suspend, Kill, Yield, Count, below0, freeSemaphores, freeSlots, stop, uncounted, checks, deed, finish, step}
-use Rattle.rules.specs.Telling.{NoneHolds, seen, inUse, Seats, seats, seated, behind, headRuns, reseat, released, Changes, Keeps}
+use Rattle.rules.specs.Telling.{NoneHolds, seen, inUse, Seats, seats, seated, behind, PutBehind, headRuns, reseat, released, Changes, Keeps}
 use Rattle.rules.proofs.Resched.{Settled, Prepared}
 use Rattle.rules.proofs.Effects.{Shows, Effect, settled-shows}
 use Rattle.rules.proofs.WaitSignal.{blocks-not-null}
@@ -50,6 +51,33 @@ pub refused-value : (n : ℕ) → valueOf (Refused n) ≡ negsuc 0
 refused-value n = refl
 
 -- Rescheduling
+
+-- a process put on the ready list goes behind every entry whose priority is equal or higher
+pub behind-put : (rank : ℕ → ℕ) (p : ℕ) (xs : List ℕ) → Falling rank xs → PutBehind rank p xs (behind rank p xs)
+unfolding putBefore times
+behind-put rank p [] f = record { front = []; back = []; was = refl; is = refl; higher = λ x h. absurd (omega arith); lower = λ x h. absurd (omega arith) }
+behind-put rank p (x ∷ xs) f = go (ltb (rank x) (rank p)) refl (behind-put rank p xs (f .1))
+  where
+    at-most : (y : ℕ) → 1 ≤ times y (x ∷ xs) → rank y ≤ rank x
+    at-most y h = atMost-member rank (rank x) (x ∷ xs) y (omega arith, f .0) h
+
+    here-or : (b : Bool) (y : ℕ) (ys : List ℕ) → eqb x y ≡ b → 1 ≤ (if b then suc (times y ys) else times y ys) → (1 ≤ times y ys → rank p ≤ rank y) → rank p ≤ rank x → rank p ≤ rank y
+    here-or true y ys e h k l = rw (eqb-true x y e) at l
+    here-or false y ys e h k l = k h
+
+    go : (b : Bool) → ltb (rank x) (rank p) ≡ b → PutBehind rank p xs (behind rank p xs) → PutBehind rank p (x ∷ xs) (if b then p ∷ x ∷ xs else x ∷ behind rank p xs)
+    go true e r =
+        let k : rank x < rank p = ltb-true (rank x) (rank p) e in
+        record { front = []; back = x ∷ xs; was = refl; is = refl; higher = λ y h. absurd (omega arith); lower = λ y h. let m : rank y ≤ rank x = at-most y h in omega arith }
+    go false e r =
+        record {
+          front = x ∷ r .front;
+          back = r .back;
+          was = ap (λ (l : List ℕ). x ∷ l) (r .was);
+          is = ap (λ (l : List ℕ). x ∷ l) (r .is);
+          higher = λ y h. here-or (eqb x y) y (r .front) refl h (r .higher y) (ltb-false (rank x) (rank p) e);
+          lower = r .lower;
+        }
 
 -- an empty ready list: nothing changes
 pub reschedule-empty : (t : Tables) → readyList t ≡ [] → reschedule t ≡ t
@@ -193,7 +221,7 @@ module _ {t : Tables} (S : Sound t) where
 
   -- it is suspended then, and keeps its priority
   pub suspend-slot : (a : ℤ) → NoneHolds (checks t (Suspend a)) → process (step t (Suspend a) .tables) (natAbs a) ≡ record { state = Suspended; priority = priorityOf t (natAbs a) }
-  suspend-slot a k = rw (step-done t (Suspend a) k) (slot-stopped _ t (natAbs a) _ (live-slot (S .laid) (natAbs a) (inside processLimit a (k .0))) refl refl)
+  suspend-slot a k = rw (step-done t (Suspend a) k) (slot-stopped (pos (priorityOf t (natAbs a))) t (natAbs a) _ (live-slot (S .laid) (natAbs a) (inside processLimit a (k .0))) refl refl)
 
   -- 09 kill: the slot is free
 

@@ -1,12 +1,12 @@
 -- Words to tell what a call leaves: how each semaphore is seen, who is ready in which order, and who runs.
-use Prim.Native.Nat.{ℕ}
+use Prim.Native.Nat.{ℕ, _≤_, _<_}
 use mathlib.Core.Path.{_≡_}
 use mathlib.Core.Logic.{_≢_}
 use mathlib.Core.Bool.{Bool, true, false}
-use mathlib.Core.List.{List, [], _∷_}
+use mathlib.Core.List.{List, [], _∷_, _++_}
 use lib.Dec.{ltb}
 use lib.IntN.{ℤ}
-use Rattle.lists.specs.Lists.{if_then_else_, putBefore, isEmpty}
+use Rattle.lists.specs.Lists.{if_then_else_, putBefore, times, isEmpty}
 use Rattle.tables.specs.declared.Tables.{Tables}
 use Rattle.tables.specs.Readers.{priorityOf, isUsed, countOf, queue, readyList, currents}
 use Rattle.rules.specs.declared.Outcome.{Outcome}
@@ -44,6 +44,15 @@ seated r c = record { ready = r; running = c }
 -- p put behind every entry whose rank is equal or higher
 abbrev pub behind : (ℕ → ℕ) → ℕ → List ℕ → List ℕ
 behind rank p xs = putBefore (λ x. ltb (rank x) (rank p)) p xs
+
+-- p stands in ys as it is put in xs: behind every entry whose rank is equal or higher, and before the others
+pub record PutBehind (rank : ℕ → ℕ) (p : ℕ) (xs ys : List ℕ) : Type 0 where
+  pub front : List ℕ
+  pub back : List ℕ
+  pub was : xs ≡ front ++ back
+  pub is : ys ≡ front ++ p ∷ back
+  pub higher : (x : ℕ) → 1 ≤ times x front → rank p ≤ rank x
+  pub lower : (x : ℕ) → 1 ≤ times x back → rank x < rank p
 
 -- each of these in turn
 unfoldable pub allBehind : (ℕ → ℕ) → List ℕ → List ℕ → List ℕ
