@@ -1,13 +1,13 @@
 -- Laws of a list in falling order. Assumes nothing.
-use Prim.Native.Nat.{_≤_, suc, ℕ}
+use Prim.Native.Nat.{ℕ, suc, _≤_}
 use native.Mathlib.Omega.{arith}
-use mathlib.Core.Path.{_≡_, refl}
-use mathlib.Core.Bool.{Bool, false, true}
+use mathlib.Core.Bool.{Bool, true, false}
 use mathlib.Core.List.{List, [], _∷_}
+use mathlib.Core.Path.{_≡_, refl}
 use lib.Dec.{eqb, leb}
-use borrow.Author.Tests.{eqb-true, le-leb, leb-true}
-use Rattle.lists.specs.Lists.{AtMost, Falling, falls, filter, if_then_else_, putBefore, times}
-use Rattle.lists.proofs.Bools.{and-in, both}
+use borrow.Author.Tests.{eq-eqb, le-leb, eqb-true, leb-true}
+use Rattle.lists.specs.Lists.{if_then_else_, filter, putBefore, times, AtMost, Falling, falls}
+use Rattle.lists.proofs.Bools.{both, and-in}
 
 module _ (rank : ℕ → ℕ) where
   pub atMost-mono : (m n : ℕ) (xs : List ℕ) → m ≤ n → AtMost rank m xs → AtMost rank n xs
@@ -31,6 +31,15 @@ module _ (rank : ℕ → ℕ) where
       go : (b : Bool) → eqb x p ≡ b → 1 ≤ (if b then suc (times p xs) else times p xs) → (1 ≤ times p xs → rank p ≤ n) → rank p ≤ n
       go true e k ih = rw (← (eqb-true x p e)) (a .0)
       go false e k ih = ih k
+
+  pub atMost-all : (n : ℕ) (xs : List ℕ) → ((p : ℕ) → 1 ≤ times p xs → rank p ≤ n) → AtMost rank n xs
+  unfolding times
+  atMost-all n [] h = tt
+  atMost-all n (x ∷ xs) h = (h x (rw (eq-eqb x x refl) (omega arith)), atMost-all n xs (λ p k. h p (go (eqb x p) p k)))
+    where
+      go : (b : Bool) (p : ℕ) → 1 ≤ times p xs → 1 ≤ (if b then suc (times p xs) else times p xs)
+      go true p k = omega arith
+      go false p k = k
 
   pub falling-filter : (f : ℕ → Bool) (xs : List ℕ) → Falling rank xs → Falling rank (filter f xs)
   unfolding filter

@@ -2,3 +2,5 @@ pub mod Bools
 pub mod ListLaws
 pub mod FallingLaws
 pub mod NumberLaws
+pub mod Rows
+pub mod RoundLaws

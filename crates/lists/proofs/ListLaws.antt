@@ -169,6 +169,11 @@ filter-none f g (x ∷ xs) h = go (f x) (g x) h (filter-none f g xs)
     go false true h ih = rw (ih h)
     go false false h ih = ih h
 
+pub filter-no : (f : ℕ → Bool) (xs : List ℕ) → ((x : ℕ) → f x ≡ false) → filter f xs ≡ []
+unfolding filter
+filter-no f [] h = refl
+filter-no f (x ∷ xs) h = rw h (filter-no f xs h)
+
 -- an entry of a filtered list passes the test
 pub passes : (f : ℕ → Bool) (xs : List ℕ) (x : ℕ) → 1 ≤ times x (filter f xs) → f x ≡ true
 passes f xs x h = go (f x) (rw times-filter at h)

@@ -21,7 +21,7 @@ module _ {A : Type 0} (f : ℕ → A) where
   listed-length k zero = refl
   listed-length k (suc n) = ap suc (listed-length (suc k) n)
 
-  listed-from : (k n i : ℕ) (z : A) → i < n → getD (listed k n f) i z ≡ f (k + i)
+  pub listed-from : (k n i : ℕ) (z : A) → i < n → getD (listed k n f) i z ≡ f (k + i)
   unfolding listed
   listed-from k zero i z h = absurd (omega arith)
   listed-from k (suc n) zero z h = let e : k + 0 ≡ k = omega arith in rw e

@@ -2,3 +2,4 @@ pub mod Schedule
 pub mod Answers
 pub mod Calls
 pub mod Enter
+pub mod Telling

@@ -1,0 +1,17 @@
+pub mod Joins
+pub mod Moves
+pub mod Resched
+pub mod Effects
+pub mod WaitSignal
+pub mod Release
+pub mod Slots
+pub mod Found
+pub mod Refusals
+pub mod Does
+pub mod Kept
+pub mod Fits
+pub mod Numbers
+pub mod Session
+pub mod Seats
+pub mod Told
+pub mod Cursors

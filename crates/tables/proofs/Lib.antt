@@ -1,0 +1,6 @@
+pub mod States
+pub mod LineLaws
+pub mod Sentences
+pub mod TestLaws
+pub mod BootLaws
+pub mod Lines

@@ -1,0 +1,92 @@
+-- A state that passes a test is the state that the test names. Assumes nothing.
+use Prim.Native.Nat.{ℕ}
+use mathlib.Core.Bool.{Bool, true, false, _||_, false≢true}
+use mathlib.Core.Logic.{_≢_}
+use mathlib.Core.Path.{_≡_, refl, sym, ap, _∙_}
+use borrow.Author.Tests.{ne-eqb, eqb-true}
+use Rattle.tables.specs.declared.State.{State}
+use Rattle.tables.specs.declared.State.the-variants.{Free, Current, Ready, Suspended, Waiting}
+use Rattle.tables.specs.States.{isFree, isCurrent, isReady, isSuspended, waitsOn}
+
+pub is-free : (st : State) → isFree st ≡ true → st ≡ Free
+is-free Free h = refl
+is-free Current h = absurd (false≢true h)
+is-free Ready h = absurd (false≢true h)
+is-free Suspended h = absurd (false≢true h)
+is-free (Waiting s) h = absurd (false≢true h)
+
+pub is-current : (st : State) → isCurrent st ≡ true → st ≡ Current
+is-current Free h = absurd (false≢true h)
+is-current Current h = refl
+is-current Ready h = absurd (false≢true h)
+is-current Suspended h = absurd (false≢true h)
+is-current (Waiting s) h = absurd (false≢true h)
+
+pub is-ready : (st : State) → isReady st ≡ true → st ≡ Ready
+is-ready Free h = absurd (false≢true h)
+is-ready Current h = absurd (false≢true h)
+is-ready Ready h = refl
+is-ready Suspended h = absurd (false≢true h)
+is-ready (Waiting s) h = absurd (false≢true h)
+
+pub is-suspended : (st : State) → isSuspended st ≡ true → st ≡ Suspended
+is-suspended Free h = absurd (false≢true h)
+is-suspended Current h = absurd (false≢true h)
+is-suspended Ready h = absurd (false≢true h)
+is-suspended Suspended h = refl
+is-suspended (Waiting s) h = absurd (false≢true h)
+
+pub waits-on : (st : State) (s : ℕ) → waitsOn s st ≡ true → st ≡ Waiting s
+waits-on Free s h = absurd (false≢true h)
+waits-on Current s h = absurd (false≢true h)
+waits-on Ready s h = absurd (false≢true h)
+waits-on Suspended s h = absurd (false≢true h)
+waits-on (Waiting r) s h = ap Waiting (eqb-true r s h)
+
+-- what follows
+
+pub ready-live : (st : State) → isReady st ≡ true → isFree st ≡ false
+ready-live st h = ap isFree (is-ready st h)
+
+pub ready-no-waiter : (st : State) (s : ℕ) → isReady st ≡ true → waitsOn s st ≡ false
+ready-no-waiter st s h = ap (waitsOn s) (is-ready st h)
+
+pub current-live : (st : State) → isCurrent st ≡ true → isFree st ≡ false
+current-live st h = ap isFree (is-current st h)
+
+pub current-no-waiter : (st : State) (s : ℕ) → isCurrent st ≡ true → waitsOn s st ≡ false
+current-no-waiter st s h = ap (waitsOn s) (is-current st h)
+
+pub runs-no-waiter : (st : State) (s : ℕ) → (isReady st || isCurrent st) ≡ true → waitsOn s st ≡ false
+runs-no-waiter st s h = go (isReady st) refl
+  where
+    go : (b : Bool) → isReady st ≡ b → waitsOn s st ≡ false
+    go true e = ready-no-waiter st s e
+    go false e = current-no-waiter st s (sym (ap (λ (b : Bool). b || isCurrent st) e) ∙ h)
+
+pub suspended-live : (st : State) → isSuspended st ≡ true → isFree st ≡ false
+suspended-live st h = ap isFree (is-suspended st h)
+
+pub suspended-not-current : (st : State) → isSuspended st ≡ true → isCurrent st ≡ false
+suspended-not-current st h = ap isCurrent (is-suspended st h)
+
+pub suspended-no-waiter : (st : State) (s : ℕ) → isSuspended st ≡ true → waitsOn s st ≡ false
+suspended-no-waiter st s h = ap (waitsOn s) (is-suspended st h)
+
+pub free-not-current : (st : State) → isFree st ≡ true → isCurrent st ≡ false
+free-not-current st h = ap isCurrent (is-free st h)
+
+pub free-not-ready : (st : State) → isFree st ≡ true → isReady st ≡ false
+free-not-ready st h = ap isReady (is-free st h)
+
+pub free-no-waiter : (st : State) (s : ℕ) → isFree st ≡ true → waitsOn s st ≡ false
+free-no-waiter st s h = ap (waitsOn s) (is-free st h)
+
+pub waits-live : (st : State) (s : ℕ) → waitsOn s st ≡ true → isFree st ≡ false
+waits-live st s h = ap isFree (waits-on st s h)
+
+pub waits-not-current : (st : State) (s : ℕ) → waitsOn s st ≡ true → isCurrent st ≡ false
+waits-not-current st s h = ap isCurrent (waits-on st s h)
+
+pub waits-other : (st : State) (s r : ℕ) → waitsOn s st ≡ true → s ≢ r → waitsOn r st ≡ false
+waits-other st s r h k = ap (waitsOn r) (waits-on st s h) ∙ ne-eqb s r k
