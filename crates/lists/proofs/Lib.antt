@@ -4,3 +4,5 @@ pub mod FallingLaws
 pub mod NumberLaws
 pub mod Rows
 pub mod RoundLaws
+pub mod Bits
+pub mod Walks

@@ -1,0 +1,58 @@
+-- A turn of the walk along the ready list. Assumes nothing.
+use Prim.Native.Nat.{_+_, _<_, _≤_, ℕ}
+use native.Mathlib.Omega.{arith}
+use mathlib.Core.Bool.{Bool, false, true}
+use mathlib.Core.List.{List, _∷_}
+use mathlib.Core.Path.{_∙_, _≡_, ap, refl, subst}
+use lib.Dec.{eqb}
+use lib.ListN.{drop, getD, length}
+use borrow.Author.Tests.{eq-eqb, ne-eqb}
+use Rattle.layout.specs.Bytes.{fromBytes}
+use Rattle.layout.specs.Offsets.{orderAt, prioritiesAt}
+use Rattle.lists.specs.Lists.{falls, filter}
+use Rattle.tables.specs.Limits.{processLimit}
+use Rattle.tables.specs.Readers.{line, priorityOf, readyList, stateOf}
+use Rattle.tables.specs.States.{isReady}
+use Rattle.layout.proofs.Image.{order-long, place-said}
+use Rattle.lists.proofs.Walks.{falls-none, falls-on, falls-stop, filter-done, filter-in, filter-over}
+use Rattle.soundness.proofs.StateBytes.{priority-said, ready-byte, state-said}
+
+module _ (bs : List ℕ) (named : (i : ℕ) → i < processLimit → getD bs (orderAt + i) 0 < processLimit) where
+  -- what is left of the test of the ready list from place i on
+  abbrev pub left : ℕ → ℕ → Bool
+  left last i = falls (priorityOf (fromBytes bs)) last (filter (λ p. isReady (stateOf (fromBytes bs) p)) (drop i (fromBytes bs .order)))
+
+  module _ (last i p : ℕ) (h : i < processLimit) (at : getD bs (orderAt + i) 0 ≡ p) where
+    below : p < processLimit
+    below = subst (λ (q : ℕ). q < processLimit) at (named i h)
+
+    here : getD (fromBytes bs .order) i 0 ≡ p
+    here = place-said bs i h ∙ at
+
+    long : i < length (fromBytes bs .order)
+    long = rw (order-long bs) (omega arith)
+
+    test : isReady (stateOf (fromBytes bs) (getD (fromBytes bs .order) i 0)) ≡ eqb (getD bs p 0) 2
+    test = rw here (ap isReady (state-said bs p below) ∙ ready-byte (getD bs p 0))
+
+    priority : priorityOf (fromBytes bs) (getD (fromBytes bs .order) i 0) ≡ getD bs (prioritiesAt + p) 0
+    priority = rw here (priority-said bs p below)
+
+    met : getD bs p 0 ≡ 2 → left last i ≡ falls (priorityOf (fromBytes bs)) last (getD (fromBytes bs .order) i 0 ∷ filter (λ p. isReady (stateOf (fromBytes bs) p)) (drop (i + 1) (fromBytes bs .order)))
+    met e = ap (falls (priorityOf (fromBytes bs)) last) (filter-in (λ p. isReady (stateOf (fromBytes bs) p)) (fromBytes bs .order) i long (test ∙ eq-eqb (getD bs p 0) 2 e))
+
+    pub left-stop : getD bs p 0 ≡ 2 → last < getD bs (prioritiesAt + p) 0 → left last i ≡ false
+    left-stop e r = met e ∙ falls-stop (priorityOf (fromBytes bs)) last (getD (fromBytes bs .order) i 0) _ (rw priority r)
+
+    pub left-on : getD bs p 0 ≡ 2 → getD bs (prioritiesAt + p) 0 ≤ last → left last i ≡ left (getD bs (prioritiesAt + p) 0) (i + 1)
+    left-on e r = met e ∙ falls-on (priorityOf (fromBytes bs)) last (getD (fromBytes bs .order) i 0) _ (rw priority r) ∙ ap (λ (n : ℕ). left n (i + 1)) priority
+
+    pub left-over : (getD bs p 0 ≡ 2 → ⊥) → left last i ≡ left last (i + 1)
+    left-over e = ap (falls (priorityOf (fromBytes bs)) last) (filter-over (λ p. isReady (stateOf (fromBytes bs) p)) (fromBytes bs .order) i long (test ∙ ne-eqb (getD bs p 0) 2 e))
+
+  pub left-none : (last i : ℕ) → processLimit ≤ i → left last i ≡ true
+  left-none last i h = ap (falls (priorityOf (fromBytes bs)) last) (filter-done (λ p. isReady (stateOf (fromBytes bs) p)) (fromBytes bs .order) i (rw (order-long bs) h)) ∙ falls-none (priorityOf (fromBytes bs)) last
+
+  pub left-all : (top : ℕ) → left top 0 ≡ falls (priorityOf (fromBytes bs)) top (readyList (fromBytes bs))
+  unfolding line
+  left-all top = refl

@@ -1,0 +1,35 @@
+use mathlib.Core.Path.{_∙_, sym}
+use borrow.Author.Needs.{needs}
+use Rattle.lists.proofs.Bools.{not-false, not-true}
+use Rattle.soundness.specs.Good.{good}
+use Rattle.soundness.proofs.check.is_sound.Statement.{statement}
+use Rattle.soundness.proofs.Parts.{unlaid}
+use Rattle.soundness.proofs.check.is_sound.Tie as tie
+
+well-formed-requires : tie.Need-well-formed-requires
+well-formed-requires c κs = search needs
+
+returns : tie.Need-returns
+unfolding good
+returns c = sym (rw (sym (c .before .well-formed .ensures) ∙ not-true _ (c .if1 .taken)))
+
+laid-requires : tie.Need-laid-requires
+laid-requires c κs = sym (c .before .well-formed .ensures) ∙ not-false _ (c .if1 .left)
+
+returns-2 : tie.Need-returns-2
+unfolding good
+returns-2 c =
+    let wf = sym (c .before .before .before .well-formed .ensures) ∙ not-false _ (c .before .before .if1 .left) in
+    sym (rw (wf, unlaid (c .before .before .before .before .before .args .bytes .now) wf (sym (c .before .laid .ensures) ∙ not-true _ (c .if2 .taken))))
+
+runs-requires : tie.Need-runs-requires
+runs-requires c κs = (sym (c .before .before .before .well-formed .ensures) ∙ not-false _ (c .before .before .if1 .left), sym (c .before .laid .ensures) ∙ not-false _ (c .if2 .left))
+
+returns-3 : tie.Need-returns-3
+unfolding good
+returns-3 c = sym (rw (sym (c .before .before .before .before .well-formed .ensures) ∙ not-false _ (c .before .before .before .if1 .left)) (sym (c .runs .ensures)))
+
+pub is-sound-spec : {M : Type 1} → statement M
+is-sound-spec =
+    tie.close
+    (tie.spec well-formed-requires returns laid-requires returns-2 runs-requires returns-3)

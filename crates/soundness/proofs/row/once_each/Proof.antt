@@ -1,0 +1,91 @@
+use Prim.Native.Nat.{_+_, _-_, _<_, _^_, _≤_, ℕ}
+use native.Mathlib.Omega.{arith}
+use mathlib.Core.Bool.{_||_, false}
+use mathlib.Core.List.{List}
+use mathlib.Core.Path.{_∙_, _≡_, ap, sym}
+use lib.Bits.{bitOr}
+use lib.Dec.{eqb, ltb}
+use lib.ListN.{getD, length, take}
+use lib.Seq.{take-all}
+use borrow.Author.Needs.{needs}
+use Rattle.layout.specs.Bytes.{fromBytes}
+use Rattle.layout.specs.Offsets.{orderAt, size}
+use Rattle.lists.specs.Lists.{times}
+use Rattle.tables.specs.Limits.{processLimit}
+use Rattle.layout.proofs.Image.{order-long, place-said}
+use Rattle.lists.proofs.Bits.{mask, mask-ext, mask-full, mask-none, mask-or, shifted}
+use Rattle.lists.proofs.Walks.{among-next, among-none}
+use Rattle.tables.proofs.Lines.{all-among}
+use Rattle.soundness.proofs.row.once_each.Statement.{statement}
+use Rattle.soundness.proofs.row.once_each.Tie as tie
+
+abbrev Inv-loop : tie.InvT-loop
+Inv-loop bytes seen₀ i₀ seen i = (i ≤ processLimit) × (seen ≡ mask processLimit (λ p. ltb 0 (times p (take i (fromBytes bytes .order))))) × (length bytes ≡ size)
+
+abbrev μ-loop : tie.MeasureT-loop
+μ-loop bytes seen₀ i₀ seen i = processLimit - i
+
+loop-holds : tie.Need-loop-holds Inv-loop μ-loop
+loop-holds c = (search needs, sym (mask-ext processLimit _ (λ p. false) (λ p h. among-none p) ∙ mask-none processLimit), search needs)
+
+add-p : tie.Need-add-p Inv-loop μ-loop
+add-p c = search needs
+
+shared-slice-read-p : tie.Need-shared-slice-read-p Inv-loop μ-loop
+shared-slice-read-p c = search needs
+
+cast-seen : tie.Need-cast-seen Inv-loop μ-loop
+cast-seen c = let hp : getD (c .before .before .before .args .bytes .now) (orderAt + c .before .before .loop .i) 0 < processLimit = c .before .before .before .pre .1 (c .before .before .loop .i) (omega arith) in search (needs, hp)
+
+shl-seen : tie.Need-shl-seen Inv-loop μ-loop
+shl-seen c =
+    let hp : getD (c .before .before .before .args .bytes .now) (orderAt + c .before .before .loop .i) 0 < processLimit = c .before .before .before .pre .1 (c .before .before .loop .i) (omega arith) in
+    omega arith
+
+add-i : tie.Need-add-i Inv-loop μ-loop
+add-i c = search needs
+
+loop-less : tie.Need-loop-less Inv-loop μ-loop
+loop-less c = search needs
+
+loop-again : tie.Need-loop-again Inv-loop μ-loop
+loop-again c =
+    let bs = c .before .before .before .args .bytes .now in
+    let i = c .before .before .loop .i in
+    let p = getD bs (orderAt + i) 0 in
+    let hp : p < processLimit = c .before .before .before .pre .1 i (omega arith) in
+    let o = fromBytes bs .order in
+    let l : i < length o = rw (order-long bs) (omega arith) in (
+      search needs,
+      ap (bitOr (c .before .before .loop .seen)) (shifted p hp)
+          ∙ ap (λ (k : ℕ). bitOr k (2 ^ p)) (c .before .before .loop .inv .1)
+          ∙ mask-or processLimit (λ q. ltb 0 (times q (take i o))) p hp
+          ∙ mask-ext processLimit (λ q. ltb 0 (times q (take i o)) || eqb q p) (λ q. ltb 0 (times q (take (i + 1) o))) (λ q h. ap (λ (k : ℕ). ltb 0 (times q (take i o)) || eqb q k) (sym (place-said bs i (omega arith))) ∙ among-next o i q l),
+      search needs,
+    )
+
+returns : tie.Need-returns Inv-loop μ-loop
+returns c =
+    let bs = c .before .before .args .bytes .now in
+    let o = fromBytes bs .order in
+    let k : c .before .loop .i ≡ processLimit = omega arith in
+    let e : c .before .loop .seen ≡ mask processLimit (λ p. ltb 0 (times p (take (c .before .loop .i) o))) = c .before .loop .inv .1 in
+    ap (λ (m : ℕ). eqb m 4294967295) (e ∙ ap (λ (l : List ℕ). mask processLimit (λ p. ltb 0 (times p l))) (take-all (c .before .loop .i) o (rw (order-long bs) (omega arith))))
+    ∙ mask-full (λ p. ltb 0 (times p o))
+    ∙ all-among o (order-long bs) (λ i h. rw (place-said bs i h) (c .before .before .pre .1 i h))
+
+pub once-each-spec : {M : Type 1} → statement M
+once-each-spec =
+    tie.close
+    (tie.spec
+    Inv-loop
+    μ-loop
+    loop-holds
+    add-p
+    shared-slice-read-p
+    cast-seen
+    shl-seen
+    add-i
+    loop-less
+    loop-again
+    returns)

@@ -1,0 +1,3 @@
+pub mod Good
+pub mod Tallies
+pub mod Laid

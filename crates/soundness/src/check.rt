@@ -1,0 +1,68 @@
+// The check.
+use crate::counts::counts_fit;
+use crate::counts::waiters;
+use crate::form::well_formed;
+use crate::row::once_each;
+use crate::running::current;
+use crate::running::currents;
+use crate::running::ready_falls;
+use crate::slots::null_fits;
+use crate::slots::slots_fit;
+use layout::offsets::NEXT_PROCESS;
+use layout::offsets::NEXT_SEMAPHORE;
+use layout::offsets::PRIORITIES;
+use tables::Tables;
+ghost use mathlib.Core.Path.{_≡_};
+ghost use mathlib.Core.Bool.{true};
+ghost use Rattle.tables.specs.Test.{soundNow};
+ghost use Rattle.layout.specs.Bytes.{fromBytes, wellFormed};
+ghost use Rattle.soundness.specs.Good.{good};
+ghost use Rattle.soundness.specs.Laid.{laidNow};
+
+// How the tables are laid: the cursors, the slots, the row.
+fn laid(bytes: &[u8]) -> bool
+    requires { ⌜ wellFormed (now bytes) ≡ true ⌝ }
+    ensures { λ r. ⌜ r ≡ laidNow (fromBytes (now (bytes .entry))) ⌝ }
+{
+    if bytes[NEXT_SEMAPHORE] >= Tables::SEMAPHORES as u8 {
+        return false;
+    }
+    if bytes[NEXT_PROCESS] >= Tables::PROCESSES as u8 {
+        return false;
+    }
+    if !null_fits(bytes[0], bytes[PRIORITIES]) {
+        return false;
+    }
+    if !slots_fit(bytes) {
+        return false;
+    }
+    once_each(bytes)
+}
+
+// Of laid tables: who runs, and the queues.
+fn runs(bytes: &[u8]) -> bool
+    requires { ⌜ (wellFormed (now bytes) ≡ true) × (laidNow (fromBytes (now bytes)) ≡ true) ⌝ }
+    ensures { λ r. ⌜ r ≡ soundNow (fromBytes (now (bytes .entry))) ⌝ }
+{
+    if currents(bytes) != 1 {
+        return false;
+    }
+    let c = current(bytes) as usize;
+    if !ready_falls(bytes, bytes[PRIORITIES + c]) {
+        return false;
+    }
+    let many = waiters(bytes);
+    counts_fit(bytes, many)
+}
+
+pub fn is_sound(bytes: &[u8]) -> bool
+    ensures { λ r. ⌜ r ≡ good (now (bytes .entry)) ⌝ }
+{
+    if !well_formed(bytes) {
+        return false;
+    }
+    if !laid(bytes) {
+        return false;
+    }
+    runs(bytes)
+}
