@@ -1,0 +1,3 @@
+pub mod Accounts
+pub mod Demand3
+pub mod Main
