@@ -1,3 +1,5 @@
 pub mod Accounts
 pub mod Demand3
 pub mod Main
+pub mod Edges
+pub mod ShutOut
