@@ -19,7 +19,7 @@ use Rattle.tables.proofs.Sentences.{waiter-used, sentences}
 use Rattle.rules.specs.Answers.{_when_}
 use Rattle.rules.specs.Calls.{Call, Wait, Signal, MakeSemaphore, Delete, Reset, MakeProcess, Resume, Suspend, Kill, Yield, Count, checks, deed, finish, step}
 use Rattle.rules.specs.Enter.{callOf, spare, numbered}
-use Rattle.rules.specs.Telling.{NoneHolds}
+use Rattle.rules.specs.Telling.{Accepted}
 use Rattle.rules.proofs.Resched.{Settled}
 use Rattle.rules.proofs.Effects.{Shows, Effect, settled-shows}
 use Rattle.rules.proofs.Refusals.{unless-cases}
@@ -85,7 +85,7 @@ module _ {t : Tables} (S : Sound t) where
           agree-shows (change (killed p) old) (E .elsewhere r (λ c. eqb-false s r d (sym c)))
           (agrees-spared (isUsed t r) (countOf t r) (queue t r) p old (absent p r (ap (waitsOn r) e ∙ d)) a)
 
-  does-agree : (c : Call) (t′ : Tables) → NoneHolds (checks t c) → Does t c t′ → (r : ℕ) (old : Option Account) → Agree t r old → Agree t′ r (noted r (currentOf t) c (deed t c .value) old)
+  does-agree : (c : Call) (t′ : Tables) → Accepted t c → Does t c t′ → (r : ℕ) (old : Option Account) → Agree t r old → Agree t′ r (noted r (currentOf t) c (deed t c .value) old)
   does-agree (Wait a) t′ k E = effect-agree E (change (waited (currentOf t))) (λ old h. agrees-waited (countOf t (natAbs a)) (queue t (natAbs a)) (currentOf t) old (in-use a (k .1 .0) old h))
   does-agree (Signal a) t′ k E = effect-agree E (change signalled) (λ old h. agrees-signalled (countOf t (natAbs a)) (queue t (natAbs a)) old (in-use a (k .1 .0) old h))
   does-agree (MakeSemaphore a) t′ k E = effect-agree E (λ old. some (opened a)) (λ old h. agrees-opened a)

@@ -13,5 +13,6 @@ pub mod Fits
 pub mod Numbers
 pub mod Session
 pub mod Seats
-pub mod Told
 pub mod Cursors
+pub mod Telling
+pub mod Told

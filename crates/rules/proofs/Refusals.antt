@@ -13,7 +13,7 @@ use Rattle.rules.specs.declared.Outcome.{Outcome}
 use Rattle.rules.specs.Answers.{refused, Check, _when_, unless}
 use Rattle.rules.specs.Calls.{Call, Deed, checks, deed, finish, step}
 use Rattle.rules.specs.Enter.{callOf, spare, numbered}
-use Rattle.rules.specs.Telling.{NoneHolds}
+use Rattle.rules.specs.Telling.{NoneHolds, Accepted}
 
 -- what is true of every refusal, and of what is done where no check holds, is true of the call
 pub unless-cases : (t : Tables) (P : Outcome → Type 0) → ((n : ℕ) → P (refused n t)) → (cs : List Check) (o : Outcome) → (NoneHolds cs → P o) → P (unless t cs o)
@@ -29,7 +29,7 @@ pub unless-none : (t : Tables) (cs : List Check) (o : Outcome) → NoneHolds cs 
 unless-none t [] o h = refl
 unless-none t (c ∷ cs) o (h, hs) = rw h (unless-none t cs o hs)
 
-pub step-done : (t : Tables) (c : Call) → NoneHolds (checks t c) → step t c ≡ finish (deed t c)
+pub step-done : (t : Tables) (c : Call) → Accepted t c → step t c ≡ finish (deed t c)
 unfolding step
 step-done t c h = unless-none t (checks t c) (finish (deed t c)) h
 

@@ -5,18 +5,23 @@ use mathlib.Core.Logic.{_≢_}
 use mathlib.Core.Bool.{Bool, true, false}
 use mathlib.Core.List.{List, [], _∷_, _++_}
 use lib.Dec.{ltb}
-use lib.IntN.{ℤ}
+use lib.IntN.{ℤ, pos}
 use Rattle.lists.specs.Lists.{if_then_else_, putBefore, times, isEmpty}
 use Rattle.tables.specs.declared.Tables.{Tables}
 use Rattle.tables.specs.Readers.{priorityOf, isUsed, countOf, queue, readyList, currents}
 use Rattle.rules.specs.declared.Outcome.{Outcome}
 use Rattle.rules.specs.declared.Answer.the-variants.{Done}
 use Rattle.rules.specs.Answers.{Check}
+use Rattle.rules.specs.Calls.{Call, checks}
 
 -- none of these checks holds
 abbrev pub NoneHolds : List Check → Type 0
 NoneHolds [] = Unit
 NoneHolds (c ∷ cs) = (c .holds ≡ false) × NoneHolds cs
+
+-- none of the call's checks holds, so that it is done
+abbrev pub Accepted : Tables → Call → Type 0
+Accepted t c = NoneHolds (checks t c)
 
 -- how a semaphore is seen
 pub record Seen : Type 0 where
@@ -29,6 +34,9 @@ seen t s = record { used = isUsed t s; count = countOf t s; waiters = queue t s 
 
 abbrev pub inUse : ℤ → List ℕ → Seen
 inUse c q = record { used = true; count = c; waiters = q }
+
+abbrev pub notInUse : Seen
+notInUse = record { used = false; count = pos 0; waiters = [] }
 
 -- who is ready, in order, and who is current
 pub record Seats : Type 0 where
