@@ -8,8 +8,9 @@ use Rattle.tables.specs.Boot.{boot}
 use Rattle.rules.specs.Schedule.{joining, makeAllReady, startFirst, switch, reschedule}
 use Rattle.rules.specs.Calls.{step}
 use Rattle.rules.specs.Enter.{numbered}
-use Rattle.promises.specs.Edges.{run, sameList, allHold, edges}
+use Rattle.promises.specs.Record.{after}
+use Rattle.promises.specs.Edges.{sameList, allHold, edges}
 
 pub edges-hold : allHold edges ≡ true
-unfolding allHold run sameList numbered step boot filter takeOut putBefore place times isEmpty firstOr listed roundFrom line joining makeAllReady startFirst switch reschedule
+unfolding allHold after sameList numbered step boot filter takeOut putBefore place times isEmpty firstOr listed roundFrom line joining makeAllReady startFirst switch reschedule
 edges-hold = refl

@@ -15,7 +15,7 @@ use Rattle.tables.specs.declared.State.the-variants.{Free, Current, Ready, Susp
 use Rattle.tables.specs.declared.Semaphore.{Semaphore}
 use Rattle.tables.specs.declared.Tables.{Tables}
 use Rattle.tables.specs.States.{isFree, isCurrent, isReady, isSuspended, waitsOn}
-use Rattle.tables.specs.Readers.{stateOf, isUsed, countOf, queue}
+use Rattle.tables.specs.Readers.{stateOf, countOf, queue}
 use Rattle.tables.specs.Boot.{boot}
 use Rattle.tables.specs.Sound.{Sound}
 use Rattle.tables.proofs.States.{is-free}
@@ -24,29 +24,24 @@ use Rattle.tables.proofs.Sentences.{few-wait}
 use Rattle.tables.proofs.BootLaws.{entry-boot, sound-boot}
 use Rattle.rules.proofs.Kept.{sound-numbered}
 use Rattle.promises.specs.Record.{Request, Entry, Account, stillBlocked, account, after, recordOf}
-use Rattle.promises.specs.Demand.{Place, running, ready, suspended, queueOf, there, OnePlace, Demand3}
+use Rattle.promises.specs.Demand.{Place, running, ready, suspended, queueOf, there, OnePlace, Demand3, Start}
 use Rattle.promises.proofs.Accounts.{Agrees}
 use Rattle.promises.proofs.Demand3.{Agree, numbered-agree}
 
 -- what every call keeps
-pub record Invariant (t : Tables) (es : List Entry) : Type 0 where
-  pub sound : Sound t
-  pub agrees : (r : ℕ) → Agree t r (account r es)
-
--- tables that calls may start from: sound, with no semaphore in use
-pub record Start (t : Tables) : Type 0 where
-  pub sound : Sound t
-  pub none : (s : ℕ) → isUsed t s ≡ false
+record Invariant (t : Tables) (es : List Entry) : Type 0 where
+  sound : Sound t
+  agrees : (r : ℕ) → Agree t r (account r es)
 
 pub start-boot : Start boot
-start-boot = record { sound = sound-boot; none = λ s. ap (λ (x : Semaphore). x .used) (entry-boot s) }
+start-boot = record { sound = sound-boot; unused = λ s. ap (λ (x : Semaphore). x .used) (entry-boot s) }
 
 module _ {start : Tables} (st : Start start) where
   begun : Invariant start []
   unfolding account
-  begun = record { sound = st .sound; agrees = λ r. subst (λ (b : Bool). Agrees b (countOf start r) (queue start r) none) (sym (st .none r)) tt }
+  begun = record { sound = st .sound; agrees = λ r. subst (λ (b : Bool). Agrees b (countOf start r) (queue start r) none) (sym (st .unused r)) tt }
 
-  pub invariant : (requests : List Request) → Invariant (after start requests) (recordOf start requests)
+  invariant : (requests : List Request) → Invariant (after start requests) (recordOf start requests)
   unfolding after recordOf account
   invariant [] = begun
   invariant (q ∷ earlier) =
@@ -132,7 +127,7 @@ module _ {t : Tables} (S : Sound t) where
       go true = omega arith
       go false = omega arith
 
-pub demanded : {t : Tables} {es : List Entry} → Invariant t es → Demand3 t es
+demanded : {t : Tables} {es : List Entry} → Invariant t es → Demand3 t es
 demanded {t} {es} i =
     record {
       places = λ p h. placed (i .sound) p (stateOf t p) refl h;
@@ -144,6 +139,10 @@ demanded {t} {es} i =
       floor = λ s n e. let k : length (queue t s) ≡ suc n = rw e at (i .sound .queued .counted s) in omega (arith, few-wait (i .sound) s);
     }
 
--- after any list of requests from boot
+-- after any list of requests, from any start
+pub demand3-from : {start : Tables} → Start start → (requests : List Request) → Demand3 (after start requests) (recordOf start requests)
+demand3-from st requests = demanded (invariant st requests)
+
+-- and so from boot
 pub demand3 : (requests : List Request) → Demand3 (after boot requests) (recordOf boot requests)
-demand3 requests = demanded (invariant start-boot requests)
+demand3 = demand3-from start-boot

@@ -6,12 +6,12 @@ use mathlib.Core.Logic.{_≢_}
 use mathlib.Core.Option.{none, some}
 use mathlib.Core.Path.{_≡_}
 use lib.IntN.{negsuc}
-use Rattle.lists.specs.Lists.{place, times}
+use Rattle.lists.specs.Lists.{times}
 use Rattle.tables.specs.declared.Tables.{Tables}
 use Rattle.tables.specs.Limits.{processLimit}
 use Rattle.tables.specs.States.{isFree, isSuspended}
 use Rattle.tables.specs.Readers.{stateOf, isUsed, countOf, line, readyList, queue, currents}
-use Rattle.tables.specs.Sound.{Counted}
+use Rattle.tables.specs.Sound.{Counted, Sound}
 use Rattle.promises.specs.Record.{Entry, Account, stillBlocked, account}
 
 -- Places
@@ -49,9 +49,14 @@ pub record Demand3 (t : Tables) (entries : List Entry) : Type 0 where
   pub inUse : (s : ℕ) → isUsed t s ≡ true → Accounted t entries s
   -- the record says nothing of one that isn't
   pub notInUse : (s : ℕ) → isUsed t s ≡ false → account s entries ≡ none
-  -- a count of -n means n waiters, n > 0, and no count below 0 means none
+  -- a count of -n means n waiters, and one of at least 0 means none
   pub waiters : (s : ℕ) → Counted (countOf t s) (queue t s)
   -- all of them different
   pub different : (s p : ℕ) → times p (queue t s) ≤ 1
   -- no count is below -31
   pub floor : (s n : ℕ) → countOf t s ≡ negsuc n → suc n < processLimit
+
+-- tables that a run may start from, as the boot tables are: sound, with no semaphore in use
+pub record Start (t : Tables) : Type 0 where
+  pub sound : Sound t
+  pub unused : (s : ℕ) → isUsed t s ≡ false

@@ -1,7 +1,7 @@
 -- Both sides of each edge, in one table: a call on tables that a run from boot leaves, what it answers, and what is seen then.
 use Prim.Native.Nat.{ℕ}
 use mathlib.Core.Bool.{Bool, true, false, _&&_}
-use mathlib.Core.List.{List, [], _∷_}
+use mathlib.Core.List.{List, [], _∷_, reverse}
 use lib.Dec.{eqb}
 use lib.IntN.{ℤ, pos, negsuc}
 use Rattle.tables.specs.declared.Tables.{Tables}
@@ -9,15 +9,10 @@ use Rattle.tables.specs.Readers.{countOf, queue, currentOf}
 use Rattle.tables.specs.Boot.{boot}
 use Rattle.rules.specs.declared.Outcome.{Outcome}
 use Rattle.rules.specs.Answers.{numberOf, valueOf}
-use Rattle.promises.specs.Record.{Request, made}
-
--- the tables after these requests, the first first
-unfoldable pub run : Tables → List Request → Tables
-run t [] = t
-run t (q ∷ later) = run (made t q .tables) later
+use Rattle.promises.specs.Record.{made, Request, after}
 
 pub record Edge : Type 0 where
-  -- the requests before
+  -- the requests before it from boot, the first first
   pub before : List Request
   -- who calls, and what
   pub caller : ℕ
@@ -54,7 +49,7 @@ seenThen e o =
     && eqb (currentOf (o .tables)) (e .running))))
 
 abbrev pub holds : Edge → Bool
-holds e = let t : Tables = run boot (e .before) in eqb (currentOf t) (e .caller) && seenThen e (made t (e .request))
+holds e = let t : Tables = after boot (reverse (e .before)) in eqb (currentOf t) (e .caller) && seenThen e (made t (e .request))
 
 unfoldable pub allHold : List Edge → Bool
 allHold [] = true
