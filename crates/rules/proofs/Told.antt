@@ -1,5 +1,5 @@
 -- Each call of the paper's table, told of sound tables in the paper's words (specs/Telling). A reader needs the statements;
--- the proofs cite the other files. A number below 0 is always refused, so what is done is told of numbers from 0 up. Assumes nothing.
+-- the proofs cite the other files. A number below 0 is refused, so what is done is told of numbers from 0 up. Assumes nothing.
 use Prim.Native.Nat.{ℕ, suc, _≤_, _<_}
 use native.Mathlib.Omega.{arith}
 use mathlib.Core.Bool.{true, false, not}
@@ -26,22 +26,49 @@ use Rattle.tables.proofs.LineLaws.{at-same, at-other, line-absent, live-slot}
 use Rattle.rules.specs.declared.Answer.the-variants.{Done, Refused}
 use Rattle.rules.specs.declared.Outcome.{Outcome}
 use Rattle.rules.specs.Schedule.{makeReady, switch, reschedule}
-use Rattle.rules.specs.Answers.{valueOf, done}
-use Rattle.rules.specs.Calls.{Call, Wait, Signal, MakeSemaphore, Delete, Reset, MakeProcess, Resume, Suspend, Kill, Yield, Count, below0, freeSemaphores, freeSlots, step}
-use Rattle.rules.specs.Telling.{Accepted, inUse, notInUse, seats, seated, behind, PutBehind, headRuns, reseat, released, Changes, Keeps}
+use Rattle.rules.specs.Answers.{valueOf, done, refused, Check, _when_}
+use Rattle.rules.specs.Calls.{Call, Wait, Signal, MakeSemaphore, Delete, Reset, MakeProcess, Resume, Suspend, Kill, Yield, Count, below0, freeSemaphores, freeSlots, checks, step}
+use Rattle.rules.specs.Telling.{NoneHolds, Accepted, makes, inUse, notInUse, seats, seated, behind, PutBehind, headRuns, reseat, released, Changes, Keeps}
 use Rattle.rules.proofs.Moves.{ready-behind}
 use Rattle.rules.proofs.WaitSignal.{blocks-not-null}
 use Rattle.rules.proofs.Slots.{kill-prepared}
-use Rattle.rules.proofs.Refusals.{step-done, step-refused}
+use Rattle.rules.proofs.Refusals.{step-done, step-refused, step-first}
 use Rattle.rules.proofs.Does.{not-null, used, does}
 use Rattle.rules.proofs.Seats.{seats-entry, seats-cursors, seats-reschedule, reseat-nobody, seats-blocked, seats-woken, seats-resumed, seats-yielded, seats-stopped-current, seats-stopped-other, seats-released, slot-stopped}
+use Rattle.rules.proofs.Cursors.{cursors-kept}
 use Rattle.rules.proofs.Telling.{behind-put, changed, kept, only-current, made, formed, slot-found, slot-seats, slot-of, suspending, killing, kill-step, kill-did, kill-frees}
 
 -- Refusals
 
+-- of the checks that a call fails the first in order gives the refusal number
+pub refused-first : (t : Tables) (c : Call) (before after : List Check) (n : ℕ) → checks t c ≡ before ++ (n when true) ∷ after → NoneHolds before → step t c ≡ refused n t
+refused-first = step-first
+
 -- a refused call changes nothing, and its value is -1
 pub refused-nothing : (t : Tables) (c : Call) (n : ℕ) → step t c .answer ≡ Refused n → (step t c .tables ≡ t) × (valueOf (step t c .answer) ≡ negsuc 0)
 refused-nothing t c n e = (step-refused t c n e, ap valueOf e)
+
+module _ (t : Tables) (n : ℕ) where
+  -- a semaphore number below 0 is refused with 1
+  pub no-semaphore : (step t (Wait (negsuc n)) ≡ refused 1 t) × (step t (Signal (negsuc n)) ≡ refused 1 t) × (step t (Delete (negsuc n)) ≡ refused 1 t) × (step t (Count (negsuc n)) ≡ refused 1 t)
+  unfolding step
+  no-semaphore = (refl, refl, refl, refl)
+
+  -- but a reset to a count below 0 with 3
+  pub no-reset : (c : ℕ) (b : ℤ) → (step t (Reset (negsuc n) (pos c)) ≡ refused 1 t) × (step t (Reset b (negsuc c)) ≡ refused 3 t)
+  unfolding step
+  no-reset c b = (refl, refl)
+
+  -- a process number below 0 is refused with 6, a priority below 0 with 11
+  pub no-process : (step t (Resume (negsuc n)) ≡ refused 6 t) × (step t (Suspend (negsuc n)) ≡ refused 6 t) × (step t (Kill (negsuc n)) ≡ refused 6 t) × (step t (MakeProcess (negsuc n)) ≡ refused 11 t)
+  unfolding step
+  no-process = (refl, refl, refl, refl)
+
+-- Cursors
+
+-- no call but a make moves a cursor
+pub cursors-stay : (t : Tables) (c : Call) → makes c ≡ false → (step t c .tables .«next_semaphore» ≡ t .«next_semaphore») × (step t c .tables .«next_process» ≡ t .«next_process»)
+cursors-stay = cursors-kept
 
 -- Rescheduling
 

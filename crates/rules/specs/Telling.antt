@@ -1,18 +1,18 @@
 -- Words to tell what a call leaves: how each semaphore is seen, who is ready in which order, and who runs.
 use Prim.Native.Nat.{ℕ, _≤_, _<_}
-use mathlib.Core.Path.{_≡_}
-use mathlib.Core.Logic.{_≢_}
 use mathlib.Core.Bool.{Bool, true, false}
 use mathlib.Core.List.{List, [], _∷_, _++_}
+use mathlib.Core.Logic.{_≢_}
+use mathlib.Core.Path.{_≡_}
 use lib.Dec.{ltb}
 use lib.IntN.{ℤ, pos}
 use Rattle.lists.specs.Lists.{if_then_else_, putBefore, times, isEmpty}
 use Rattle.tables.specs.declared.Tables.{Tables}
-use Rattle.tables.specs.Readers.{priorityOf, isUsed, countOf, queue, readyList, currents}
-use Rattle.rules.specs.declared.Outcome.{Outcome}
+use Rattle.tables.specs.Readers.{priorityOf, isUsed, countOf, readyList, queue, currents}
 use Rattle.rules.specs.declared.Answer.the-variants.{Done}
+use Rattle.rules.specs.declared.Outcome.{Outcome}
 use Rattle.rules.specs.Answers.{Check}
-use Rattle.rules.specs.Calls.{Call, checks}
+use Rattle.rules.specs.Calls.{Call, Wait, Signal, MakeSemaphore, Delete, Reset, MakeProcess, Resume, Suspend, Kill, Yield, Count, checks}
 
 -- none of these checks holds
 abbrev pub NoneHolds : List Check → Type 0
@@ -22,6 +22,20 @@ NoneHolds (c ∷ cs) = (c .holds ≡ false) × NoneHolds cs
 -- none of the call's checks holds, so that it is done
 abbrev pub Accepted : Tables → Call → Type 0
 Accepted t c = NoneHolds (checks t c)
+
+-- the two calls that make a semaphore or a process
+abbrev pub makes : Call → Bool
+makes (Wait a) = false
+makes (Signal a) = false
+makes (MakeSemaphore a) = true
+makes (Delete a) = false
+makes (Reset a b) = false
+makes (MakeProcess a) = true
+makes (Resume a) = false
+makes (Suspend a) = false
+makes (Kill a) = false
+makes Yield = false
+makes (Count a) = false
 
 -- how a semaphore is seen
 pub record Seen : Type 0 where
