@@ -14,5 +14,6 @@ pub mod Numbers
 pub mod Session
 pub mod Seats
 pub mod Cursors
+pub mod Others
 pub mod Telling
 pub mod Told

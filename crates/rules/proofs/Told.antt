@@ -2,9 +2,8 @@
 -- the proofs cite the other files. A number below 0 is refused, so what is done is told of numbers from 0 up. Assumes nothing.
 use Prim.Native.Nat.{ℕ, suc, _≤_, _<_}
 use native.Mathlib.Omega.{arith}
-use mathlib.Core.Bool.{true, false, not}
+use mathlib.Core.Bool.{true, false, not, _||_}
 use mathlib.Core.List.{List, [], _∷_, _++_}
-use mathlib.Core.Logic.{_≢_}
 use mathlib.Core.Path.{_≡_, refl, ap, _∙_}
 use lib.Dec.{eqb}
 use lib.IntN.{ℤ, pos, negsuc, sucℤ, predℤ}
@@ -22,13 +21,13 @@ use Rattle.tables.specs.Readers.{freeSlot, freeSemaphore, process, stateOf, pri
 use Rattle.tables.specs.Setters.{withCount}
 use Rattle.tables.specs.Sound.{Laid, Sound}
 use Rattle.tables.proofs.States.{is-suspended}
-use Rattle.tables.proofs.LineLaws.{at-same, at-other, line-absent, live-slot}
+use Rattle.tables.proofs.LineLaws.{at-same, line-absent, live-slot}
 use Rattle.rules.specs.declared.Answer.the-variants.{Done, Refused}
 use Rattle.rules.specs.declared.Outcome.{Outcome}
 use Rattle.rules.specs.Schedule.{makeReady, switch, reschedule}
 use Rattle.rules.specs.Answers.{valueOf, done, refused, Check, _when_}
 use Rattle.rules.specs.Calls.{Call, Wait, Signal, MakeSemaphore, Delete, Reset, MakeProcess, Resume, Suspend, Kill, Yield, Count, below0, freeSemaphores, freeSlots, checks, step}
-use Rattle.rules.specs.Telling.{NoneHolds, Accepted, makes, inUse, notInUse, seats, seated, behind, PutBehind, headRuns, reseat, released, Changes, Keeps}
+use Rattle.rules.specs.Telling.{NoneHolds, Accepted, makes, makesOrKills, resumesOrSuspends, inUse, notInUse, seats, seated, behind, PutBehind, headRuns, reseat, released, Changes, Keeps}
 use Rattle.rules.proofs.Moves.{ready-behind}
 use Rattle.rules.proofs.WaitSignal.{blocks-not-null}
 use Rattle.rules.proofs.Slots.{kill-prepared}
@@ -36,6 +35,7 @@ use Rattle.rules.proofs.Refusals.{step-done, step-refused, step-first}
 use Rattle.rules.proofs.Does.{not-null, used, does}
 use Rattle.rules.proofs.Seats.{seats-entry, seats-cursors, seats-reschedule, reseat-nobody, seats-blocked, seats-woken, seats-resumed, seats-yielded, seats-stopped-current, seats-stopped-other, seats-released, slot-stopped}
 use Rattle.rules.proofs.Cursors.{cursors-kept}
+use Rattle.rules.proofs.Others.{priority-stays, slot-stays}
 use Rattle.rules.proofs.Telling.{behind-put, changed, kept, only-current, made, formed, slot-found, slot-seats, slot-of, suspending, killing, kill-step, kill-did, kill-frees}
 
 -- Refusals
@@ -69,6 +69,16 @@ module _ (t : Tables) (n : ℕ) where
 -- no call but a make moves a cursor
 pub cursors-stay : (t : Tables) (c : Call) → makes c ≡ false → (step t c .tables .«next_semaphore» ≡ t .«next_semaphore») × (step t c .tables .«next_process» ≡ t .«next_process»)
 cursors-stay = cursors-kept
+
+-- Processes that a call doesn't speak of
+
+-- no priority changes but by a make or a kill
+pub priorities-stay : (t : Tables) (c : Call) (x : ℕ) → makesOrKills t c x ≡ false → priorityOf (step t c .tables) x ≡ priorityOf t x
+priorities-stay = priority-stays
+
+-- a free or suspended process stays so, unless the call makes, kills, resumes or suspends it
+pub quiet-stay : {t : Tables} → Sound t → (x : ℕ) → (isFree (stateOf t x) || isSuspended (stateOf t x)) ≡ true → (c : Call) → makesOrKills t c x ≡ false → resumesOrSuspends c x ≡ false → process (step t c .tables) x ≡ process t x
+quiet-stay = slot-stays
 
 -- Rescheduling
 
@@ -158,10 +168,6 @@ module _ {t : Tables} (S : Sound t) where
     -- it is suspended then, with priority n
     pub make-process-slot : process (step t (MakeProcess (pos n)) .tables) p ≡ record { state = Suspended; priority = n }
     make-process-slot = rw (← (formed S (pos n) p k e), step-done t (MakeProcess (pos n)) k) (at-same t (first (freeSlots t)) _ (live-slot (S .laid) (first (freeSlots t)) (slot-found S (k .1 .0) .below)))
-
-    -- no other slot changes
-    pub make-process-others : (x : ℕ) → x ≢ p → process (step t (MakeProcess (pos n)) .tables) x ≡ process t x
-    make-process-others x h = rw (step-done t (MakeProcess (pos n)) k) (at-other t (first (freeSlots t)) _ x (λ d. h (d ∙ formed S (pos n) p k e)))
 
     -- the cursor is one past it, and the limit becomes 0
     pub make-process-cursor : step t (MakeProcess (pos n)) .tables .«next_process» ≡ (if eqb (suc p) processLimit then 0 else suc p)
