@@ -1,4 +1,4 @@
--- No call but a make moves a cursor. Assumes nothing.
+-- No call but a make moves a cursor (`makes` of specs/Telling). Assumes nothing.
 use Prim.Native.Nat.{ℕ}
 use mathlib.Core.Bool.{Bool, true, false, true≢false}
 use mathlib.Core.List.{List, [], _∷_}
@@ -13,6 +13,7 @@ use Rattle.tables.specs.Readers.{freeSemaphore, stateOf, priorityOf, countOf, r
 use Rattle.tables.specs.Setters.{withSemaphore, withCount}
 use Rattle.rules.specs.Schedule.{joining, makeReady, makeAllReady, makeWait, startFirst, switch, reschedule}
 use Rattle.rules.specs.Calls.{Call, Wait, Signal, MakeSemaphore, Delete, Reset, MakeProcess, Resume, Suspend, Kill, Yield, Count, below0, Deed, plain, switching, uncounted, checks, deed, finish, step}
+use Rattle.rules.specs.Telling.{makes}
 use Rattle.rules.proofs.Refusals.{unless-cases}
 
 abbrev cursors : Tables → ℕ × ℕ
@@ -62,20 +63,6 @@ kill-cursors t Current = refl
 kill-cursors t Ready = refl
 kill-cursors t Suspended = refl
 kill-cursors t (Waiting s) = refl
-
--- the calls that make nothing
-abbrev pub makes : Call → Bool
-makes (Wait a) = false
-makes (Signal a) = false
-makes (MakeSemaphore a) = true
-makes (Delete a) = false
-makes (Reset a b) = false
-makes (MakeProcess a) = true
-makes (Resume a) = false
-makes (Suspend a) = false
-makes (Kill a) = false
-makes Yield = false
-makes (Count a) = false
 
 deed-cursors : (t : Tables) (c : Call) → makes c ≡ false → cursors (deed t c .tables) ≡ cursors t
 deed-cursors t (Wait a) h = go (below0 (predℤ (countOf t (natAbs a))))

@@ -20,8 +20,8 @@ use Rattle.tables.specs.Readers.{freeSlot, freeSemaphore, stateOf, priorityOf, 
 use Rattle.tables.specs.Sound.{Sound}
 use Rattle.tables.proofs.States.{is-suspended, runs-no-waiter}
 use Rattle.tables.proofs.Sentences.{waiter-used}
-use Rattle.rules.specs.Calls.{Call, Wait, Signal, MakeSemaphore, Delete, Reset, MakeProcess, Resume, Suspend, Kill, Yield, Count, below0, outside, freeSemaphores, stop, uncounted, checks, deed, finish}
-use Rattle.rules.specs.Telling.{NoneHolds}
+use Rattle.rules.specs.Calls.{Call, Wait, Signal, MakeSemaphore, Delete, Reset, MakeProcess, Resume, Suspend, Kill, Yield, Count, below0, outside, freeSemaphores, stop, uncounted, deed, finish}
+use Rattle.rules.specs.Telling.{Accepted}
 use Rattle.rules.proofs.Resched.{Settled}
 use Rattle.rules.proofs.Effects.{Effect}
 use Rattle.rules.proofs.WaitSignal.{wait-effect, signal-effect}
@@ -83,7 +83,7 @@ module _ {t : Tables} (S : Sound t) where
   kill-does p Suspended e below hz k = free-settled S p below hz (λ r. ap (waitsOn r) e) (pos 1)
   kill-does p (Waiting s) e below hz k = still (waiter-used S p s e) (kill-waiter S p s hz e (pos 1))
 
-  pub does : (c : Call) → NoneHolds (checks t c) → Does t c (finish (deed t c) .tables)
+  pub does : (c : Call) → Accepted t c → Does t c (finish (deed t c) .tables)
   does (Wait a) (h, (u, (k, z))) = still (used a u) (wait-effect S (natAbs a) (used a u) k)
   does (Signal a) (h, (u, z)) = still (used a u) (signal-effect S (natAbs a) (used a u))
   does (MakeSemaphore a) (h, (k, z)) = make-semaphore-effect S a k

@@ -32,7 +32,7 @@ use Rattle.rules.specs.Schedule.{makeReady, makeWait}
 use Rattle.rules.specs.Answers.{valueOf, _when_}
 use Rattle.rules.specs.Calls.{Call, Wait, Signal, MakeSemaphore, Delete, Reset, MakeProcess, Resume, Suspend, Kill, Yield, Count, below0, largest, freeSemaphores, freeSlots, plain, switching, checks, deed, finish, step}
 use Rattle.rules.specs.Enter.{callOf, spare, numbered}
-use Rattle.rules.specs.Telling.{NoneHolds}
+use Rattle.rules.specs.Telling.{Accepted}
 use Rattle.rules.proofs.Resched.{Settled}
 use Rattle.rules.proofs.Effects.{Effect, settled-shows}
 use Rattle.rules.proofs.Refusals.{unless-cases}
@@ -92,7 +92,7 @@ module _ {t : Tables} (S : Sound t) (F : Fits t) where
   kill-fits p Suspended e g = by-settled g
   kill-fits p (Waiting s) e E = by-effect E (raised-fits (countOf t s) (F .counts s) (waited-on (countOf t s) (queue t s) p (S .queued .counted s) (sentences S .queuedOnce p s e)))
 
-  does-fits : (c : Call) (t′ : Tables) → SFits w32 (setsCount c) → NoneHolds (checks t c) → Does t c t′ → Fits t′
+  does-fits : (c : Call) (t′ : Tables) → SFits w32 (setsCount c) → Accepted t c → Does t c t′ → Fits t′
   does-fits (Wait a) t′ f k E = by-effect E (lowered-fits (countOf t (natAbs a)) (queue t (natAbs a)) (F .counts (natAbs a)) (S .queued .counted (natAbs a)) (few-wait S (natAbs a)))
   does-fits (Signal a) t′ f k E = by-effect E (raised-fits (countOf t (natAbs a)) (F .counts (natAbs a)) (k .1 .1 .0))
   does-fits (MakeSemaphore a) t′ f k E = by-effect E f
@@ -114,7 +114,7 @@ module _ {t : Tables} (S : Sound t) (F : Fits t) where
       (λ k. small (priorityOf t p) (let z : priorityOf t p ≡ 0 = S .laid .free p (is-free (stateOf t p) k) in omega arith))
       (λ k. small (priorityOf t p) (let z = S .laid .live p (omega arith) k in omega arith)))
 
-  value-fits : (c : Call) → NoneHolds (checks t c) → SFits w32 (deed t c .value)
+  value-fits : (c : Call) → Accepted t c → SFits w32 (deed t c .value)
   value-fits (Wait a) k = go (below0 (predℤ (countOf t (natAbs a))))
     where
       go : (b : Bool) → SFits w32 ((if b then switching (pos 1) (makeWait (withCount t (natAbs a) (predℤ (countOf t (natAbs a)))) (currentOf t) (natAbs a)) else plain (pos 1) (withCount t (natAbs a) (predℤ (countOf t (natAbs a))))) .value)

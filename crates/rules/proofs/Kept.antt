@@ -14,7 +14,7 @@ use Rattle.tables.proofs.Sentences.{sentences}
 use Rattle.rules.specs.Answers.{_when_}
 use Rattle.rules.specs.Calls.{Call, Wait, Signal, MakeSemaphore, Delete, Reset, MakeProcess, Resume, Suspend, Kill, Yield, Count, below0, checks, deed, finish, step}
 use Rattle.rules.specs.Enter.{callOf, spare, numbered}
-use Rattle.rules.specs.Telling.{NoneHolds}
+use Rattle.rules.specs.Telling.{Accepted}
 use Rattle.rules.proofs.Effects.{Effect, effect-sound, settled-sound}
 use Rattle.rules.proofs.WaitSignal.{counted-wait, counted-signal}
 use Rattle.rules.proofs.Slots.{counted-kill}
@@ -38,7 +38,7 @@ module _ {t : Tables} (S : Sound t) where
   kill-sound p Suspended e g = settled-sound S g
   kill-sound p (Waiting s) e E = by-use E (counted-kill (countOf t s) (queue t s) p (S .queued .counted s) (sentences S .queuedOnce p s e))
 
-  does-sound : (c : Call) (t′ : Tables) → NoneHolds (checks t c) → Does t c t′ → Sound t′
+  does-sound : (c : Call) (t′ : Tables) → Accepted t c → Does t c t′ → Sound t′
   does-sound (Wait a) t′ k E = by-use E (counted-wait (countOf t (natAbs a)) (queue t (natAbs a)) (currentOf t) (S .queued .counted (natAbs a)))
   does-sound (Signal a) t′ k E = by-use E (counted-signal (countOf t (natAbs a)) (queue t (natAbs a)) (S .queued .counted (natAbs a)))
   does-sound (MakeSemaphore a) t′ k E = by-use E (count-at-least-0 a (k .0))

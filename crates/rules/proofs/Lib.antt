@@ -13,5 +13,7 @@ pub mod Fits
 pub mod Numbers
 pub mod Session
 pub mod Seats
-pub mod Told
 pub mod Cursors
+pub mod Others
+pub mod Telling
+pub mod Told

@@ -217,6 +217,3 @@ finished {d} P = go (d .reschedules) refl
     go : (b : Bool) → d .reschedules ≡ b → Settled (d .tables) (if b then reschedule (d .tables) else d .tables)
     go true e = settled (d .tables) (P .laid) (P .few) (P .zero)
     go false e = record { laid = P .laid; running = P .runs e; semaphores = refl; queues = λ s. refl }
-
-pub settled-done : {t t′ t″ : Tables} → Settled t′ t″ → t′ .semaphores ≡ t .semaphores → ((s : ℕ) → queue t′ s ≡ queue t s) → Settled t t″
-settled-done g a b = settled-trans a b g

@@ -185,7 +185,7 @@ module _ (v : ℤ) (t : Tables) (p : ℕ) (y : Process) (P : Prepared (stop v t 
   pub seats-stopped-other : isCurrent (stateOf t p) ≡ false → seats (finish (stop v t p y) .tables) ≡ seated (without p (readyList t)) (currents t)
   seats-stopped-other h = rw h (seats-set t p y below hr hc ∙ seats-of refl (line-absent t p isCurrent h))
 
-all-ready-priority : (q : List ℕ) (t : Tables) (x : ℕ) → priorityOf (makeAllReady t q) x ≡ priorityOf t x
+pub all-ready-priority : (q : List ℕ) (t : Tables) (x : ℕ) → priorityOf (makeAllReady t q) x ≡ priorityOf t x
 unfolding makeAllReady joining
 all-ready-priority [] t x = refl
 all-ready-priority (p ∷ ps) t x = all-ready-priority ps (makeReady t p) x ∙ priority-kept t p Ready x
@@ -211,9 +211,13 @@ unfolding startFirst
 start-slot t [] x e h = refl
 start-slot t (f ∷ fs) x e h = at-other t f _ x (λ d. true≢false (sym (line-first t isReady f fs e) ∙ rw d at h))
 
-join-slot : (t : Tables) (c x : ℕ) → x ≢ c → process (makeReady t c) x ≡ process t x
+pub join-slot : (t : Tables) (c x : ℕ) → x ≢ c → process (makeReady t c) x ≡ process t x
 unfolding joining
 join-slot t c x h = at-other t c _ x h
+
+pub wait-slot : (t : Tables) (c s x : ℕ) → x ≢ c → process (makeWait t c s) x ≡ process t x
+unfolding joining
+wait-slot t c s x h = at-other t c _ x h
 
 pub slot-kept : (t : Tables) (x : ℕ) → isReady (stateOf t x) ≡ false → isCurrent (stateOf t x) ≡ false → process (reschedule t) x ≡ process t x
 unfolding reschedule switch

@@ -15,7 +15,7 @@ use Rattle.tables.specs.declared.Tables.{Tables}
 use Rattle.tables.specs.Limits.{processLimit, semaphoreLimit, priorityLimit}
 use Rattle.tables.specs.States.{isFree, isCurrent, isReady, isSuspended}
 use Rattle.tables.specs.Readers.{freeSlot, freeSemaphore, stateOf, priorityOf, countOf, isUsed, queue, currentOf}
-use Rattle.tables.specs.Setters.{withProcess, withSemaphore, withState, withCount, withNextSemaphore, withNextProcess}
+use Rattle.tables.specs.Setters.{withProcess, withSemaphore, withCount, withNextSemaphore, withNextProcess}
 use Rattle.rules.specs.declared.Outcome.{Outcome}
 use Rattle.rules.specs.Schedule.{makeReady, makeAllReady, makeWait, reschedule}
 use Rattle.rules.specs.Answers.{Check, _when_, unless, done}

@@ -1,7 +1,7 @@
 -- Who joins the ready list or a queue, where, and who runs then.
 use Prim.Native.Nat.{ℕ}
 use lib.Dec.{ltb}
-use mathlib.Core.Bool.{Bool, true, false, _&&_}
+use mathlib.Core.Bool.{Bool, false, _&&_}
 use mathlib.Core.List.{List, [], _∷_}
 use Rattle.lists.specs.Lists.{if_then_else_, place}
 use Rattle.tables.specs.declared.State.{State}

@@ -1,12 +1,12 @@
 -- The boot tables are sound. Assumes nothing.
-use Prim.Native.Nat.{ℕ, zero, suc, _-_}
+use Prim.Native.Nat.{ℕ, zero, suc}
 use mathlib.Core.Bool.{true}
 use mathlib.Core.Path.{_≡_, refl}
 use lib.ListN.{getD, replicate}
 use Rattle.lists.specs.Lists.{filter, times, firstOr, falls}
 use Rattle.lists.specs.Numbers.{listed, all}
-use Rattle.tables.specs.Limits.{processLimit, semaphoreLimit}
-use Rattle.tables.specs.Readers.{freeSlot, freeSemaphore, process, semaphore, line}
+use Rattle.tables.specs.Limits.{semaphoreLimit}
+use Rattle.tables.specs.Readers.{freeSemaphore, semaphore, line}
 use Rattle.tables.specs.Boot.{boot}
 use Rattle.tables.specs.Sound.{Sound}
 use Rattle.tables.specs.Test.{onceEach, countsFit, readyFalls, soundNow}
@@ -16,10 +16,6 @@ getD-replicate {ℓ} : {A : Type ℓ} (n i : ℕ) (d : A) → getD (replicate n 
 getD-replicate zero i d = refl
 getD-replicate (suc n) zero d = refl
 getD-replicate (suc n) (suc i) d = getD-replicate n i d
-
-pub slot-boot : (p : ℕ) → process boot (suc p) ≡ freeSlot
-unfolding boot
-slot-boot p = getD-replicate (processLimit - 1) p freeSlot
 
 pub entry-boot : (s : ℕ) → semaphore boot s ≡ freeSemaphore
 unfolding boot

@@ -1,9 +1,8 @@
 -- A state that passes a test is the state that the test names. Assumes nothing.
 use Prim.Native.Nat.{ℕ}
 use mathlib.Core.Bool.{Bool, true, false, _||_, false≢true}
-use mathlib.Core.Logic.{_≢_}
 use mathlib.Core.Path.{_≡_, refl, sym, ap, _∙_}
-use borrow.Author.Tests.{ne-eqb, eqb-true}
+use borrow.Author.Tests.{eqb-true}
 use Rattle.tables.specs.declared.State.{State}
 use Rattle.tables.specs.declared.State.the-variants.{Free, Current, Ready, Suspended, Waiting}
 use Rattle.tables.specs.States.{isFree, isCurrent, isReady, isSuspended, waitsOn}
@@ -64,15 +63,6 @@ runs-no-waiter st s h = go (isReady st) refl
     go true e = ready-no-waiter st s e
     go false e = current-no-waiter st s (sym (ap (λ (b : Bool). b || isCurrent st) e) ∙ h)
 
-pub suspended-live : (st : State) → isSuspended st ≡ true → isFree st ≡ false
-suspended-live st h = ap isFree (is-suspended st h)
-
-pub suspended-not-current : (st : State) → isSuspended st ≡ true → isCurrent st ≡ false
-suspended-not-current st h = ap isCurrent (is-suspended st h)
-
-pub suspended-no-waiter : (st : State) (s : ℕ) → isSuspended st ≡ true → waitsOn s st ≡ false
-suspended-no-waiter st s h = ap (waitsOn s) (is-suspended st h)
-
 pub free-not-current : (st : State) → isFree st ≡ true → isCurrent st ≡ false
 free-not-current st h = ap isCurrent (is-free st h)
 
@@ -81,12 +71,3 @@ free-not-ready st h = ap isReady (is-free st h)
 
 pub free-no-waiter : (st : State) (s : ℕ) → isFree st ≡ true → waitsOn s st ≡ false
 free-no-waiter st s h = ap (waitsOn s) (is-free st h)
-
-pub waits-live : (st : State) (s : ℕ) → waitsOn s st ≡ true → isFree st ≡ false
-waits-live st s h = ap isFree (waits-on st s h)
-
-pub waits-not-current : (st : State) (s : ℕ) → waitsOn s st ≡ true → isCurrent st ≡ false
-waits-not-current st s h = ap isCurrent (waits-on st s h)
-
-pub waits-other : (st : State) (s r : ℕ) → waitsOn s st ≡ true → s ≢ r → waitsOn r st ≡ false
-waits-other st s r h k = ap (waitsOn r) (waits-on st s h) ∙ ne-eqb s r k

@@ -1,7 +1,7 @@
 -- When tables are sound, in the paper's words. `Test` has the test that is computed, and proofs/Sentences what follows from these facts by the row.
 use Prim.Native.Nat.{ℕ, suc, _≤_, _<_}
 use mathlib.Core.Path.{_≡_}
-use mathlib.Core.Bool.{Bool, true, false, _||_}
+use mathlib.Core.Bool.{true, false, _||_}
 use mathlib.Core.List.{List, []}
 use lib.ListN.{length}
 use lib.IntN.{ℤ, pos, negsuc}

@@ -1,0 +1,16 @@
+-- Every line of the table of edges holds: computed from the rules. Assumes nothing.
+use mathlib.Core.Bool.{true}
+use mathlib.Core.Path.{_≡_, refl}
+use Rattle.lists.specs.Lists.{filter, takeOut, putBefore, place, times, isEmpty, firstOr}
+use Rattle.lists.specs.Numbers.{listed, roundFrom}
+use Rattle.tables.specs.Readers.{line}
+use Rattle.tables.specs.Boot.{boot}
+use Rattle.rules.specs.Schedule.{joining, makeAllReady, startFirst, switch, reschedule}
+use Rattle.rules.specs.Calls.{step}
+use Rattle.rules.specs.Enter.{numbered}
+use Rattle.promises.specs.Record.{after}
+use Rattle.promises.specs.Edges.{sameList, allHold, edges}
+
+pub edges-hold : allHold edges ≡ true
+unfolding allHold after sameList numbered step boot filter takeOut putBefore place times isEmpty firstOr listed roundFrom line joining makeAllReady startFirst switch reschedule
+edges-hold = refl

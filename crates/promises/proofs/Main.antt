@@ -1,0 +1,148 @@
+-- Demand 3 holds after any list of requests. Assumes nothing.
+use Prim.Native.Nat.{ℕ, suc, _≤_}
+use native.Mathlib.Omega.{arith}
+use mathlib.Core.Bool.{Bool, true, false, true≢false}
+use mathlib.Core.List.{List, [], _∷_}
+use mathlib.Core.Logic.{_≢_}
+use mathlib.Core.Option.{Option, none, some}
+use mathlib.Core.Path.{_≡_, refl, sym, ap, subst, _∙_}
+use lib.IntN.{ℤ}
+use lib.ListN.{length}
+use borrow.Author.Tests.{eq-eqb, ne-eqb}
+use Rattle.lists.specs.Lists.{if_then_else_, times}
+use Rattle.tables.specs.declared.State.{State}
+use Rattle.tables.specs.declared.State.the-variants.{Free, Current, Ready, Suspended, Waiting}
+use Rattle.tables.specs.declared.Semaphore.{Semaphore}
+use Rattle.tables.specs.declared.Tables.{Tables}
+use Rattle.tables.specs.States.{isFree, isCurrent, isReady, isSuspended, waitsOn}
+use Rattle.tables.specs.Readers.{stateOf, countOf, queue}
+use Rattle.tables.specs.Boot.{boot}
+use Rattle.tables.specs.Sound.{Sound}
+use Rattle.tables.proofs.States.{is-free}
+use Rattle.tables.proofs.LineLaws.{in-line-live}
+use Rattle.tables.proofs.Sentences.{few-wait}
+use Rattle.tables.proofs.BootLaws.{entry-boot, sound-boot}
+use Rattle.rules.proofs.Kept.{sound-numbered}
+use Rattle.promises.specs.Record.{Request, Entry, Account, stillBlocked, account, after, recordOf}
+use Rattle.promises.specs.Demand.{Place, running, ready, suspended, queueOf, there, OnePlace, Demand3, Start}
+use Rattle.promises.proofs.Accounts.{Agrees}
+use Rattle.promises.proofs.Demand3.{Agree, numbered-agree}
+
+-- what every call keeps
+record Invariant (t : Tables) (es : List Entry) : Type 0 where
+  sound : Sound t
+  agrees : (r : ℕ) → Agree t r (account r es)
+
+pub start-boot : Start boot
+start-boot = record { sound = sound-boot; unused = λ s. ap (λ (x : Semaphore). x .used) (entry-boot s) }
+
+module _ {start : Tables} (st : Start start) where
+  begun : Invariant start []
+  unfolding account
+  begun = record { sound = st .sound; agrees = λ r. subst (λ (b : Bool). Agrees b (countOf start r) (queue start r) none) (sym (st .unused r)) tt }
+
+  invariant : (requests : List Request) → Invariant (after start requests) (recordOf start requests)
+  unfolding after recordOf account
+  invariant [] = begun
+  invariant (q ∷ earlier) =
+      let i : Invariant (after start earlier) (recordOf start earlier) = invariant earlier in
+      record {
+        sound = sound-numbered (i .sound) (q .number) (q .a) (q .b);
+        agrees = λ r. numbered-agree (i .sound) (q .number) (q .a) (q .b) r (account r (recordOf start earlier)) (i .agrees r);
+      }
+
+-- What the demand says
+
+used-account : (c : ℤ) (q : List ℕ) (old : Option Account) → Agrees true c q old → (n : Account) × ((old ≡ some n) × ((c ≡ n .count) × (q ≡ stillBlocked (n .waits))))
+used-account c q none h = absurd h
+used-account c q (some n) h = (n, (refl, (sym (h .0), sym (h .1))))
+
+unused-account : (c : ℤ) (q : List ℕ) (old : Option Account) → Agrees false c q old → old ≡ none
+unused-account c q none h = refl
+unused-account c q (some n) h = absurd h
+
+-- Places
+
+-- the test of a state that a place is the line of
+abbrev tests : Place → State → Bool
+tests running = isCurrent
+tests ready = isReady
+tests suspended = isSuspended
+tests (queueOf s) = waitsOn s
+
+module _ {t : Tables} (S : Sound t) where
+  there-times : (p : ℕ) (x : Place) → times p (there t x) ≡ (if tests x (stateOf t p) then 1 else 0)
+  there-times p running = in-line-live (S .laid) p isCurrent refl
+  there-times p ready = in-line-live (S .laid) p isReady refl
+  there-times p suspended = in-line-live (S .laid) p isSuspended refl
+  there-times p (queueOf s) = in-line-live (S .laid) p (waitsOn s) refl
+
+  at-place : (p : ℕ) (st : State) → stateOf t p ≡ st → (x : Place) → tests x st ≡ true → ((y : Place) → y ≢ x → tests y st ≡ false) → OnePlace t p
+  at-place p st e x h k = record { place = x; once = there-times p x ∙ rw (e, h); nowhereElse = λ y n. there-times p y ∙ rw (e, k y n) }
+
+  placed : (p : ℕ) (st : State) → stateOf t p ≡ st → isFree st ≡ false → OnePlace t p
+  placed p Free e h = absurd (true≢false h)
+  placed p Current e h = at-place p Current e running refl other
+    where
+      other : (y : Place) → y ≢ running → tests y Current ≡ false
+      other running n = absurd (n refl)
+      other ready n = refl
+      other suspended n = refl
+      other (queueOf s) n = refl
+  placed p Ready e h = at-place p Ready e ready refl other
+    where
+      other : (y : Place) → y ≢ ready → tests y Ready ≡ false
+      other running n = refl
+      other ready n = absurd (n refl)
+      other suspended n = refl
+      other (queueOf s) n = refl
+  placed p Suspended e h = at-place p Suspended e suspended refl other
+    where
+      other : (y : Place) → y ≢ suspended → tests y Suspended ≡ false
+      other running n = refl
+      other ready n = refl
+      other suspended n = absurd (n refl)
+      other (queueOf s) n = refl
+  placed p (Waiting s) e h = at-place p (Waiting s) e (queueOf s) (eq-eqb s s refl) other
+    where
+      other : (y : Place) → y ≢ queueOf s → tests y (Waiting s) ≡ false
+      other running n = refl
+      other ready n = refl
+      other suspended n = refl
+      other (queueOf r) n = ne-eqb s r (λ d. n (ap queueOf (sym d)))
+
+  nowhere : (p : ℕ) → isFree (stateOf t p) ≡ true → (x : Place) → times p (there t x) ≡ 0
+  nowhere p h x = there-times p x ∙ rw (is-free (stateOf t p) h) (go x)
+    where
+      go : (x : Place) → _≡_ {A = ℕ} (if tests x Free then 1 else 0) 0
+      go running = refl
+      go ready = refl
+      go suspended = refl
+      go (queueOf s) = refl
+
+  different : (s p : ℕ) → times p (queue t s) ≤ 1
+  different s p = rw (there-times p (queueOf s)) (go (waitsOn s (stateOf t p)))
+    where
+      go : (b : Bool) → (if b then 1 else 0) ≤ 1
+      go true = omega arith
+      go false = omega arith
+
+demanded : {t : Tables} {es : List Entry} → Invariant t es → Demand3 t es
+demanded {t} {es} i =
+    record {
+      places = λ p h. placed (i .sound) p (stateOf t p) refl h;
+      free = nowhere (i .sound);
+      inUse = λ s h. let w = used-account (countOf t s) (queue t s) (account s es) (rw h at (i .agrees s)) in record { says = w .0; known = w .1 .0; count = w .1 .1 .0; waiters = w .1 .1 .1 };
+      notInUse = λ s h. unused-account (countOf t s) (queue t s) (account s es) (rw h at (i .agrees s));
+      waiters = i .sound .queued .counted;
+      different = different (i .sound);
+      floor = λ s n e. let k : length (queue t s) ≡ suc n = rw e at (i .sound .queued .counted s) in omega (arith, few-wait (i .sound) s);
+    }
+
+-- after any list of requests, from any start
+pub demand3-from : {start : Tables} → Start start → (requests : List Request) → Demand3 (after start requests) (recordOf start requests)
+demand3-from st requests = demanded (invariant st requests)
+
+-- and so from boot
+pub demand3 : (requests : List Request) → Demand3 (after boot requests) (recordOf boot requests)
+demand3 = demand3-from start-boot

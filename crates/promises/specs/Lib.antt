@@ -1,0 +1,4 @@
+pub mod Record
+pub mod Demand
+pub mod Kernels
+pub mod Edges

@@ -1,0 +1,1 @@
+// No code: what is promised over any run of calls (specs/), and the theorems (proofs/).
