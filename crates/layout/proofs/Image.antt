@@ -2,7 +2,7 @@
 use Prim.Native.Nat.{_%_, _*_, _+_, _-_, _/_, _<_, _≤_, ℕ}
 use native.Mathlib.Nat.{add-mul-mod-self-right, div-add-mod', mod-eq-of-lt}
 use native.Mathlib.Omega.{arith}
-use mathlib.Core.Bool.{_&&_, true}
+use mathlib.Core.Bool.{Bool, _&&_, false, true}
 use mathlib.Core.List.{List}
 use mathlib.Core.Path.{_∙_, _≡_, ap, refl, subst, sym}
 use lib.Dec.{eqb}
@@ -11,15 +11,17 @@ use lib.Seq.{ext-getD}
 use mir.Syntax.{w32}
 use mir.Val.{ofZ, toZ}
 use mir.ValLaws.{ofZ-toZ, toZ-fits}
-use borrow.Author.Tests.{eqb-true, le-ltb, lt-ltb, ltb-true}
+use borrow.Author.Tests.{eq-eqb, eqb-true, le-ltb, lt-ltb, ltb-true}
 use Rattle.lists.specs.Numbers.{all, listed}
 use Rattle.tables.specs.Limits.{processLimit, semaphoreLimit}
 use Rattle.tables.specs.Readers.{countOf, freeSemaphore, freeSlot, isUsed, priorityOf, process, semaphore, stateOf}
 use Rattle.tables.specs.declared.Process.{Process}
 use Rattle.tables.specs.declared.Semaphore.{Semaphore}
 use Rattle.tables.specs.declared.Tables.{Tables}
-use Rattle.lists.proofs.Bools.{below?, both, either}
-use Rattle.lists.proofs.NumberLaws.{all-at, listed-all, listed-at, listed-length}
+use Rattle.tables.specs.declared.State.{State}
+use Rattle.tables.specs.declared.State.the-variants.{Current, Free, Ready, Suspended, Waiting}
+use Rattle.lists.proofs.Bools.{and-in, below?, both, either}
+use Rattle.lists.proofs.NumberLaws.{all-at, all-true, listed-all, listed-at, listed-length}
 use Rattle.layout.specs.Bytes.{byteOf, byteState, countByte, flagPlain, fromBytes, of4, placeAt, placeNamed, processAt, semaphoreAt, stateByte, stateNamed, toBytes, usedByte, wellFormed, wordAt}
 use Rattle.layout.specs.Offsets.{countsAt, nextProcessAt, nextSemaphoreAt, orderAt, prioritiesAt, size, statesAt, usedAt}
 use Rattle.layout.specs.Stands.{Held, Named, Region, Stands, Word, Words}
@@ -183,6 +185,26 @@ module _ (bs : List ℕ) (wf : wellFormed bs ≡ true) where
 
   pub formed-place : (i : ℕ) → i < processLimit → getD bs (orderAt + i) 0 < processLimit
   formed-place i h = ltb-true _ processLimit (all-at (placeNamed bs) processLimit i (both (all semaphoreLimit (flagPlain bs)) _ (both (all processLimit (stateNamed bs)) _ rest .1) .1) h)
+
+-- the bytes of tables that they can hold are well formed
+pub formed-made : (t : Tables) → Held t → wellFormed (toBytes t) ≡ true
+unfolding wellFormed Region
+formed-made t h =
+    let st = stands-made t h in
+    and-in (eq-eqb (length (toBytes t)) size (bytes-long t))
+    (and-in (all-true processLimit (stateNamed (toBytes t)) (λ p k. lt-ltb (getD (toBytes t) (statesAt + p) 0) (4 + semaphoreLimit) (rw (st .states p k) (state-small (stateOf t p) (h .waits p k)))))
+    (and-in (all-true semaphoreLimit (flagPlain (toBytes t)) (λ s k. lt-ltb (getD (toBytes t) (usedAt + s) 0) 2 (rw (st .used s k) (used-small (isUsed t s)))))
+    (all-true processLimit (placeNamed (toBytes t)) (λ i k. lt-ltb (getD (toBytes t) (orderAt + i) 0) processLimit (rw (st .order i k) (h .row i k))))))
+  where
+    state-small : (s : State) → Named s → stateByte s < 4 + semaphoreLimit
+    state-small Free n = omega arith
+    state-small Current n = omega arith
+    state-small Ready n = omega arith
+    state-small Suspended n = omega arith
+    state-small (Waiting q) n = rw (lt-ltb q semaphoreLimit n) (omega arith)
+    used-small : (u : Bool) → usedByte u < 2
+    used-small true = omega arith
+    used-small false = omega arith
 
 -- One entry of well formed bytes
 

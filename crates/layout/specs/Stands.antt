@@ -37,13 +37,17 @@ Named Ready = Unit
 Named Suspended = Unit
 Named (Waiting s) = s < semaphoreLimit
 
+-- every count is a signed number of 32 bits
+abbrev pub CountsFit : Tables → Type 0
+CountsFit t = (s : ℕ) → s < semaphoreLimit → SFits w32 (countOf t s)
+
 -- what the bytes can hold
 pub record Held (t : Tables) : Type 0 where
   pub slots : length (t .processes) ≡ processLimit
   pub entries : length (t .semaphores) ≡ semaphoreLimit
   pub places : length (t .order) ≡ processLimit
   pub waits : (p : ℕ) → p < processLimit → Named (stateOf t p)
-  pub counts : (s : ℕ) → s < semaphoreLimit → SFits w32 (countOf t s)
+  pub counts : CountsFit t
   pub row : (i : ℕ) → i < processLimit → getD (t .order) i 0 < processLimit
 
 -- the lent bytes are these tables

@@ -12,6 +12,7 @@ ghost use mathlib.Core.Path.{_≡_};
 ghost use lib.ListN.{length};
 ghost use Rattle.layout.specs.Offsets.{statesAt, prioritiesAt, usedAt, countsAt, orderAt, nextSemaphoreAt, size};
 ghost use Rattle.layout.specs.Bytes.{toBytes};
+ghost use Rattle.layout.specs.Stands.{CountsFit};
 ghost use Rattle.layout.specs.Begun.{Begun};
 
 fn put_states(bytes: &mut [u8], t: Tables)
@@ -50,7 +51,7 @@ fn put_flags(bytes: &mut [u8], t: Tables)
 
 fn put_counts(bytes: &mut [u8], t: Tables)
     requires { ⌜ Begun t countsAt (now bytes) ⌝ }
-    ensures { λ _. ⌜ Begun t orderAt (now (bytes .exit)) ⌝ }
+    ensures { λ _. ⌜ Begun t orderAt (now (bytes .exit)) × CountsFit t ⌝ }
 {
     let semaphores = t.semaphores;
     for i in 0..Tables::SEMAPHORES {
@@ -74,9 +75,10 @@ fn put_order(bytes: &mut [u8], t: Tables)
     }
 }
 
+// That each count fits its type is handed on, since it is learnt only as the count is read.
 pub fn encode(bytes: &mut [u8], t: Tables)
     requires { ⌜ length (now bytes) ≡ size ⌝ }
-    ensures { λ _. ⌜ now (bytes .exit) ≡ toBytes t ⌝ }
+    ensures { λ _. ⌜ (now (bytes .exit) ≡ toBytes t) × CountsFit t ⌝ }
 {
     put_states(bytes, t);
     put_priorities(bytes, t);

@@ -1,19 +1,20 @@
 -- A call is refused by the first check that holds, and then nothing changes; or no check holds, and it is done. Assumes nothing.
-use Prim.Native.Nat.{ℕ}
+use Prim.Native.Nat.{_≤_, ℕ}
 use native.Mathlib.Omega.{arith}
-use mathlib.Core.Bool.{Bool, true, false, _||_}
-use mathlib.Core.List.{List, [], _∷_, _++_}
-use mathlib.Core.Path.{_≡_, refl, ap, _∙_}
+use mathlib.Core.Bool.{Bool, _||_, false, true}
+use mathlib.Core.List.{List, [], _++_, _∷_}
+use mathlib.Core.Path.{_∙_, _≡_, ap, refl}
 use lib.Dec.{ltb}
 use lib.IntN.{ℤ}
 use Rattle.lists.specs.Lists.{if_then_else_}
 use Rattle.tables.specs.declared.Tables.{Tables}
-use Rattle.rules.specs.declared.Answer.the-variants.{Refused}
+use Rattle.rules.specs.declared.Answer.the-variants.{Done, Refused}
 use Rattle.rules.specs.declared.Outcome.{Outcome}
-use Rattle.rules.specs.Answers.{refused, Check, _when_, unless}
-use Rattle.rules.specs.Calls.{Call, Deed, checks, deed, finish, step}
-use Rattle.rules.specs.Enter.{callOf, spare, numbered}
-use Rattle.rules.specs.Telling.{NoneHolds, Accepted}
+use Rattle.rules.specs.Answers.{Check, _when_, refused, unless}
+use Rattle.rules.specs.Calls.{Call, Count, Deed, Delete, Kill, MakeProcess, MakeSemaphore, Reset, Resume, Signal, Suspend, Wait, Yield, checks, deed, finish, step}
+use Rattle.rules.specs.Enter.{callOf, numbered, spare}
+use Rattle.rules.specs.Telling.{Accepted, NoneHolds}
+use Rattle.rules.specs.declared.Answer.{Answer}
 
 -- what is true of every refusal, and of what is done where no check holds, is true of the call
 pub unless-cases : (t : Tables) (P : Outcome → Type 0) → ((n : ℕ) → P (refused n t)) → (cs : List Check) (o : Outcome) → (NoneHolds cs → P o) → P (unless t cs o)
@@ -55,3 +56,40 @@ unless-first t (c ∷ before) after n o (h, hs) = rw h (unless-first t before af
 pub step-first : (t : Tables) (c : Call) (before after : List Check) (n : ℕ) → checks t c ≡ before ++ (n when true) ∷ after → NoneHolds before → step t c ≡ refused n t
 unfolding step
 step-first t c before after n e h = ap (λ (cs : List Check). unless t cs (finish (deed t c))) e ∙ unless-first t before after n (finish (deed t c)) h
+
+-- Every refusal of a call on sound tables has one of the paper's numbers, 1 to 14
+
+abbrev pub Ranged : Answer → Type 0
+Ranged (Done v) = Unit
+Ranged (Refused n) = (1 ≤ n) × (n ≤ 14)
+
+abbrev AllRanged : List Check → Type 0
+AllRanged [] = Unit
+AllRanged (c ∷ cs) = ((1 ≤ c .number) × (c .number ≤ 14)) × AllRanged cs
+
+unless-ranged : (t : Tables) (cs : List Check) (o : Outcome) → AllRanged cs → Ranged (o .answer) → Ranged (unless t cs o .answer)
+unless-ranged t [] o r h = h
+unless-ranged t (c ∷ cs) o (r, rs) h = go (c .holds) (unless-ranged t cs o rs h)
+  where
+    go : (b : Bool) → Ranged (unless t cs o .answer) → Ranged ((if b then refused (c .number) t else unless t cs o) .answer)
+    go true k = r
+    go false k = k
+
+checks-ranged : (t : Tables) (c : Call) → AllRanged (checks t c)
+checks-ranged t (Wait a) = ((omega arith, omega arith), ((omega arith, omega arith), ((omega arith, omega arith), tt)))
+checks-ranged t (Signal a) = ((omega arith, omega arith), ((omega arith, omega arith), ((omega arith, omega arith), tt)))
+checks-ranged t (MakeSemaphore a) = ((omega arith, omega arith), ((omega arith, omega arith), tt))
+checks-ranged t (Delete a) = ((omega arith, omega arith), ((omega arith, omega arith), tt))
+checks-ranged t (Reset a b) = ((omega arith, omega arith), ((omega arith, omega arith), ((omega arith, omega arith), tt)))
+checks-ranged t (MakeProcess a) = ((omega arith, omega arith), ((omega arith, omega arith), tt))
+checks-ranged t (Resume a) = ((omega arith, omega arith), ((omega arith, omega arith), ((omega arith, omega arith), tt)))
+checks-ranged t (Suspend a) = ((omega arith, omega arith), ((omega arith, omega arith), ((omega arith, omega arith), ((omega arith, omega arith), tt))))
+checks-ranged t (Kill a) = ((omega arith, omega arith), ((omega arith, omega arith), ((omega arith, omega arith), tt)))
+checks-ranged t Yield = tt
+checks-ranged t (Count a) = ((omega arith, omega arith), ((omega arith, omega arith), tt))
+
+pub numbered-ranged : (t : Tables) (n : ℕ) (a b : ℤ) → Ranged (numbered t n a b .answer)
+unfolding numbered step
+numbered-ranged t n a b =
+    unless-ranged t ((13 when ltb n 1 || ltb 11 n) ∷ (14 when spare n a b) ∷ []) (step t (callOf n a b)) ((omega arith, omega arith), ((omega arith, omega arith), tt))
+    (unless-ranged t (checks t (callOf n a b)) (finish (deed t (callOf n a b))) (checks-ranged t (callOf n a b)) tt)

@@ -34,7 +34,7 @@ same-length c = let l : length (c .before .before .put-order .last .0) ≡ size 
 returns : tie.Need-returns
 returns c =
     let t = c .before .before .before .before .before .before .before .before .before .before .before .before .before .before .before .before .before .before .before .before .before .args .t in
-    begun-all t _ (begun-next t nextProcessAt _ _ (begun-next t nextSemaphoreAt _ _ (c .before .before .put-order .ensures) (omega arith) refl) (omega arith) refl)
+    (begun-all t _ (begun-next t nextProcessAt _ _ (begun-next t nextSemaphoreAt _ _ (c .before .before .put-order .ensures) (omega arith) refl) (omega arith) refl), c .before .before .before .before .before .before .put-counts .ensures .1)
 
 pub encode-spec : {M : Type 1} → statement M
 encode-spec =

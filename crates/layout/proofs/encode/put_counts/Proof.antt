@@ -1,4 +1,4 @@
-use Prim.Native.Nat.{_*_, _+_, _-_, _≤_, ℕ}
+use Prim.Native.Nat.{_*_, _+_, _-_, _<_, _≤_, ℕ}
 use native.Mathlib.Omega.{arith}
 use mathlib.Core.Path.{_∙_, _≡_, ap, refl, subst, sym}
 use mathlib.Core.List.{List}
@@ -11,6 +11,7 @@ use Rattle.tables.specs.Limits.{semaphoreLimit}
 use Rattle.tables.specs.Readers.{countOf, freeSemaphore}
 use Rattle.tables.specs.declared.Tables.{Tables}
 use Rattle.tables.specs.declared.Semaphore.{Semaphore}
+use Rattle.lists.proofs.Bools.{either}
 use Rattle.layout.specs.Begun.{Begun}
 use Rattle.layout.specs.Offsets.{countsAt, orderAt, size}
 use Rattle.layout.proofs.encode.put_counts.Statement.{statement}
@@ -19,13 +20,13 @@ use Rattle.layout.proofs.Regions.{store4}
 use Rattle.layout.proofs.encode.put_counts.Tie as tie
 
 abbrev Inv-loop : tie.InvT-loop
-Inv-loop bytes₀ semaphores i₀ bytes i = (i ≤ semaphoreLimit) × (length bytes ≡ size) × ((t : Tables) → t .semaphores ≡ semaphores → Begun t countsAt bytes₀ → Begun t (countsAt + i * 4) bytes) × (length semaphores ≡ semaphoreLimit)
+Inv-loop bytes₀ semaphores i₀ bytes i = (i ≤ semaphoreLimit) × (length bytes ≡ size) × ((t : Tables) → t .semaphores ≡ semaphores → Begun t countsAt bytes₀ → Begun t (countsAt + i * 4) bytes) × (length semaphores ≡ semaphoreLimit) × ((s : ℕ) → s < i → SFits w32 (getD semaphores s freeSemaphore .count))
 
 abbrev μ-loop : tie.MeasureT-loop
 μ-loop bytes₀ semaphores i₀ bytes i = semaphoreLimit - i
 
 loop-holds : tie.Need-loop-holds Inv-loop μ-loop
-loop-holds c = (search needs, c .before .before .pre .long, (λ t e b. b), search (needs, unmapped))
+loop-holds c = (search needs, c .before .before .pre .long, (λ t e b. b), search (needs, unmapped), (λ s h. absurd (omega arith)))
 
 mul-x : tie.Need-mul-x Inv-loop μ-loop
 mul-x c = search needs
@@ -84,14 +85,12 @@ loop-less c = search needs
 loop-again : tie.Need-loop-again Inv-loop μ-loop
 loop-again c =
     let i = c .before .before .before .before .loop .i in
-    let f : SFits w32 (getD (c .before .before .before .before .before .before .before .args .t .semaphores) i freeSemaphore .count) = search needs in (
-      search needs,
-      simp length-set (c .before .before .before .before .loop .inv .1),
-      (λ t e b.
-          let u : c .unsigned .result ≡ ofZ w32 (countOf t i) = c .unsigned .ensures ∙ ap (ofZ w32) (toZ-ofZ w32 _ f) ∙ ap (λ (xs : List Semaphore). ofZ w32 (getD xs i freeSemaphore .count)) (sym e) in
-          subst (λ (n : ℕ). Begun t (countsAt + (i + 1) * 4) (store4 (c .before .before .before .before .loop .bytes) (countsAt + i * 4) n)) (sym u) (begun-count t i (c .before .before .before .before .loop .bytes) (omega arith) (c .before .before .before .before .loop .inv .2 t e b))),
-      search needs,
-    )
+    let f : SFits w32 (getD (c .before .before .before .before .before .before .before .args .t .semaphores) i freeSemaphore .count) = search needs in
+    (search needs, simp length-set (c .before .before .before .before .loop .inv .1),
+     (λ t e b.
+       let u : c .unsigned .result ≡ ofZ w32 (countOf t i) = c .unsigned .ensures ∙ ap (ofZ w32) (toZ-ofZ w32 _ f) ∙ ap (λ (xs : List Semaphore). ofZ w32 (getD xs i freeSemaphore .count)) (sym e) in
+       subst (λ (n : ℕ). Begun t (countsAt + (i + 1) * 4) (store4 (c .before .before .before .before .loop .bytes) (countsAt + i * 4) n)) (sym u) (begun-count t i (c .before .before .before .before .loop .bytes) (omega arith) (c .before .before .before .before .loop .inv .2 t e b))), search needs,
+     (λ s h. either s i (λ q. rw q f) (λ n. c .before .before .before .before .loop .inv .4 s (omega arith))))
 
 same-length : tie.Need-same-length Inv-loop μ-loop
 same-length c = search needs
@@ -99,7 +98,7 @@ same-length c = search needs
 returns : tie.Need-returns Inv-loop μ-loop
 returns c =
     let k : countsAt + c .before .loop .i * 4 ≡ orderAt = omega arith in
-    begun-at _ _ _ _ k (c .before .loop .inv .2 _ refl (c .before .before .before .before .pre))
+    (begun-at _ _ _ _ k (c .before .loop .inv .2 _ refl (c .before .before .before .before .pre)), (λ s h. c .before .loop .inv .4 s (omega arith)))
 
 pub put-counts-spec : {M : Type 1} → statement M
 put-counts-spec =

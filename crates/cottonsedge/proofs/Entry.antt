@@ -1,0 +1,91 @@
+-- What the one-call entry promises, from what the call in place does. Assumes nothing.
+
+-- Bytes that aren't good come back as they came, answered 15
+use Prim.Native.Nat.{_<_, ℕ}
+use mathlib.Core.Bool.{false, true}
+use mathlib.Core.List.{List}
+use mathlib.Core.Path.{_∙_, _≡_, ap, sym}
+use lib.IntN.{ℤ}
+use lib.ListN.{getD, length}
+use Rattle.layout.specs.Bytes.{fromBytes, toBytes, wellFormed}
+use Rattle.layout.specs.Offsets.{size}
+use Rattle.layout.specs.Stands.{Does, Stands}
+use Rattle.promises.specs.Record.{after}
+use Rattle.rules.specs.Enter.{enter, nobody, numbered}
+use Rattle.rules.specs.declared.Answer.{Answer}
+use Rattle.rules.specs.declared.Answer.the-variants.{Refused}
+use Rattle.rules.specs.declared.Outcome.{Outcome}
+use Rattle.soundness.specs.Good.{good}
+use Rattle.soundness.specs.Tallies.{sumOf}
+use Rattle.tables.specs.Readers.{currentOf}
+use Rattle.tables.specs.Sound.{Sound}
+use Rattle.tables.specs.States.{isCurrent}
+use Rattle.tables.specs.Test.{soundNow}
+use Rattle.tables.specs.declared.Tables.{Tables}
+use Rattle.layout.proofs.Image.{bytes-back, same-bytes, stands-is, stands-made, stands-read}
+use Rattle.lists.proofs.Bools.{split}
+use Rattle.rules.proofs.Kept.{sound-numbered}
+use Rattle.rules.proofs.Numbers.{enter-sound, enter-unsound}
+use Rattle.tables.proofs.Lines.{current-sum}
+use Rattle.tables.proofs.TestLaws.{of-row}
+use Rattle.cottonsedge.specs.Entries.{answerOf, bootAnswer, booted, bytesAfter, checkAnswer, packed}
+use Rattle.cottonsedge.proofs.Standing.{good-formed, good-sound}
+
+module _ (bs : List ℕ) (n : ℕ) (a b : ℤ) (g : good bs ≡ false) where
+  unsound : wellFormed bs ≡ true → soundNow (fromBytes bs) ≡ false
+  unfolding good
+  unsound wf = sym (rw wf) ∙ g
+
+  pub refused-answer : packed (Refused 15) nobody ≡ answerOf bs n a b
+  unfolding answerOf
+  refused-answer = split (wellFormed bs) (λ wf. let e = enter-unsound (fromBytes bs) a b n (unsound wf) in sym (rw (wf, e .0, e .1))) (λ wf. sym (rw wf))
+
+  pub refused-bytes : ((i : ℕ) → getD bs i 0 < 256) → bs ≡ bytesAfter bs n a b
+  unfolding bytesAfter
+  refused-bytes byte = split (wellFormed bs) (λ wf. sym (rw (wf, enter-unsound (fromBytes bs) a b n (unsound wf) .0) (bytes-back bs byte wf))) (λ wf. sym (rw wf))
+
+-- Good bytes are called by the rules
+
+-- the sum of the numbers of the current processes is the one that runs
+pub running-is : {t : Tables} → Sound t → sumOf t isCurrent ≡ currentOf t
+running-is {t} S = sym (current-sum t (S .laid .places) (of-row (t .order) (S .laid .places) (S .laid .order)) (S .running .one))
+
+module _ (bs after : List ℕ) (n : ℕ) (a b : ℤ) (r : Answer) (byte : (i : ℕ) → getD bs i 0 < 256) (g : good bs ≡ true)
+    (d : Does (λ t. numbered t n a b .tables) (λ t. numbered t n a b .answer) bs after r) where
+  abbrev t : Tables
+  t = fromBytes bs
+
+  abbrev o : Outcome
+  o = numbered t n a b
+
+  did : (r ≡ o .answer) × Stands (o .tables) after
+  unfolding Does
+  did = d t (stands-read bs byte (good-formed bs g)) (good-sound bs g)
+
+  entered : (enter t n a b .outcome ≡ o) × (enter t n a b .running ≡ currentOf (o .tables))
+  entered = enter-sound t a b n (good-sound bs g)
+
+  pub called-long : length after ≡ size
+  called-long = did .1 .long
+
+  pub called-bytes : after ≡ bytesAfter bs n a b
+  unfolding bytesAfter
+  called-bytes = same-bytes (o .tables) after (toBytes (o .tables)) (did .1) (stands-made (o .tables) (did .1 .held)) ∙ sym (rw (good-formed bs g, entered .0))
+
+  pub called-answer : (c : ℕ) → c ≡ sumOf (fromBytes after) isCurrent → packed r c ≡ answerOf bs n a b
+  unfolding answerOf
+  called-answer c e =
+      let k : c ≡ currentOf (o .tables) = e ∙ ap (λ (x : Tables). sumOf x isCurrent) (stands-is (o .tables) after (did .1)) ∙ running-is (sound-numbered (good-sound bs g) n a b) in
+      rw (k, did .0) (sym (rw (good-formed bs g, entered .0, entered .1)))
+
+-- The answer and every byte are one function of what was lent and asked
+
+pub determined : (bs : List ℕ) (n : ℕ) (a b : ℤ) (r r′ : ℕ) (x x′ : List ℕ)
+    → (r ≡ answerOf bs n a b) × (x ≡ bytesAfter bs n a b) → (r′ ≡ answerOf bs n a b) × (x′ ≡ bytesAfter bs n a b) → (r ≡ r′) × (x ≡ x′)
+determined bs n a b r r′ x x′ p q = (p .0 ∙ sym (q .0), p .1 ∙ sym (q .1))
+
+pub boot-determined : (bs : List ℕ) (r r′ : ℕ) (x x′ : List ℕ) → (r ≡ bootAnswer bs) × (x ≡ booted bs) → (r′ ≡ bootAnswer bs) × (x′ ≡ booted bs) → (r ≡ r′) × (x ≡ x′)
+boot-determined bs r r′ x x′ p q = (p .0 ∙ sym (q .0), p .1 ∙ sym (q .1))
+
+pub check-determined : (bs : List ℕ) (r r′ : ℕ) → r ≡ checkAnswer bs → r′ ≡ checkAnswer bs → r ≡ r′
+check-determined bs r r′ p q = p ∙ sym q

@@ -1,0 +1,4 @@
+pub mod Standing
+pub mod Entry
+pub mod Value
+pub mod Sessions

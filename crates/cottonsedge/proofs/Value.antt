@@ -1,0 +1,68 @@
+-- The call by value, over the call in place. Assumes nothing.
+use Prim.Native.Nat.{_+_, _<_, ℕ}
+use native.Mathlib.Omega.{arith}
+use mathlib.Core.Bool.{false, true, true≢false}
+use mathlib.Core.List.{List}
+use mathlib.Core.Path.{_∙_, _≡_, ap, subst, sym}
+use lib.IntN.{ℤ}
+use lib.ListN.{length}
+use borrow.Author.Tests.{le-ltb}
+use Rattle.layout.specs.Bytes.{fromBytes, stateByte, toBytes}
+use Rattle.layout.specs.Offsets.{orderAt, statesAt}
+use Rattle.layout.specs.Stands.{CountsFit, Does, Held, Named}
+use Rattle.promises.specs.Demand.{running}
+use Rattle.promises.specs.Record.{after}
+use Rattle.rules.specs.Answers.{refused}
+use Rattle.rules.specs.Enter.{enter, nobody, numbered}
+use Rattle.rules.specs.declared.Answer.{Answer}
+use Rattle.soundness.specs.Good.{good}
+use Rattle.soundness.specs.Tallies.{sumOf}
+use Rattle.tables.specs.Limits.{processLimit, semaphoreLimit}
+use Rattle.tables.specs.Readers.{currentOf, stateOf}
+use Rattle.tables.specs.Sound.{Sound}
+use Rattle.tables.specs.States.{isCurrent}
+use Rattle.tables.specs.Test.{soundNow}
+use Rattle.tables.specs.declared.State.{State}
+use Rattle.tables.specs.declared.State.the-variants.{Current, Free, Ready, Suspended, Waiting}
+use Rattle.tables.specs.declared.Tables.{Tables}
+use Rattle.layout.proofs.Image.{byte-at, formed-place, formed-state, place-byte, stands-is, stands-made, state-byte, tables-back}
+use Rattle.lists.proofs.Bools.{below?, split}
+use Rattle.rules.proofs.Kept.{sound-numbered}
+use Rattle.tables.proofs.TestLaws.{checked-sound, sound-checked}
+use Rattle.cottonsedge.proofs.Entry.{running-is}
+use Rattle.cottonsedge.proofs.Standing.{good-formed, good-sound, sound-good}
+
+module _ (t : Tables) (n : ℕ) (a b : ℤ) (slots : length (t .processes) ≡ processLimit) (entries : length (t .semaphores) ≡ semaphoreLimit) (places : length (t .order) ≡ processLimit) (fits : CountsFit t) where
+  pub value-unsound : good (toBytes t) ≡ false → record { outcome = refused 15 t; running = nobody } ≡ enter t n a b
+  unfolding enter
+  value-unsound g = split (soundNow t) (λ e. absurd (true≢false (sym (sound-good (checked-sound e) fits) ∙ g))) (λ e. sym (rw e))
+
+  module _ (g : good (toBytes t) ≡ true) where
+    state-named : (st : State) → stateByte st < 4 + semaphoreLimit → Named st
+    state-named Free h = tt
+    state-named Current h = tt
+    state-named Ready h = tt
+    state-named Suspended h = tt
+    state-named (Waiting s) h = below? s semaphoreLimit (λ k. k) (λ k. let e : stateByte (Waiting s) ≡ 255 = rw (le-ltb s semaphoreLimit k) in absurd (omega arith))
+
+    held : Held t
+    held =
+        let wf = good-formed (toBytes t) g in
+        record { slots = slots
+               ; entries = entries
+               ; places = places
+               ; waits = λ p h. state-named (stateOf t p) (subst (λ (k : ℕ). k < 4 + semaphoreLimit) (byte-at t (statesAt + p) (omega arith) ∙ state-byte t p h) (formed-state (toBytes t) wf p h))
+               ; counts = fits
+               ; row = λ i h. subst (λ (k : ℕ). k < processLimit) (byte-at t (orderAt + i) (omega arith) ∙ place-byte t i h) (formed-place (toBytes t) wf i h) }
+
+    sound : Sound t
+    sound = subst Sound (tables-back t held) (good-sound (toBytes t) g)
+
+    pub value-called : (after : List ℕ) (r : Answer) (c : ℕ) → Does (λ t. numbered t n a b .tables) (λ t. numbered t n a b .answer) (toBytes t) after r → c ≡ sumOf (fromBytes after) isCurrent
+        → record { outcome = record { tables = fromBytes after; answer = r }; running = c } ≡ enter t n a b
+    unfolding Does enter
+    value-called after r c d e =
+        let w = d t (stands-made t held) sound in
+        let k : fromBytes after ≡ numbered t n a b .tables = stands-is (numbered t n a b .tables) after (w .1) in
+        let q : c ≡ currentOf (numbered t n a b .tables) = e ∙ ap (λ (x : Tables). sumOf x isCurrent) k ∙ running-is (sound-numbered sound n a b) in
+        rw (k, w .0, q) (sym (rw (sound-checked sound)))

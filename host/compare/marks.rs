@@ -1,0 +1,93 @@
+//! How deep the states were that calls were made in.
+
+use second::model::Call;
+use second::tables::{State, Tables};
+
+#[derive(Default)]
+pub struct Marks {
+    pub queue: usize,
+    pub ready: usize,
+    pub live: usize,
+    pub used: usize,
+    pub tops: u64,
+    pub semaphore_rounds: u64,
+    pub slot_rounds: u64,
+    pub kills_inside: u64,
+    pub deletes_with_waiters: u64,
+    pub resets_with_waiters: u64,
+}
+
+/// What the marks need to know of the tables before a call.
+pub struct Before {
+    next_semaphore: usize,
+    next_process: usize,
+    waiters: usize,
+    inside: bool,
+}
+
+impl Before {
+    pub fn see(t: &Tables, call: Call) -> Before {
+        Before {
+            next_semaphore: t.next_semaphore,
+            next_process: t.next_process,
+            waiters: waiters(t, call.a),
+            inside: call.call == 0x09 && inside_a_queue(t, call.a),
+        }
+    }
+}
+
+fn waiters(t: &Tables, a: i32) -> usize {
+    usize::try_from(a).ok().and_then(|s| t.semaphores.get(s)).map_or(0, |s| s.queue.len())
+}
+
+impl Marks {
+    pub fn see(&mut self, before: &Before, call: Call, after: &Tables) {
+        let longest = after.semaphores.iter().map(|s| s.queue.len()).max();
+        self.queue = self.queue.max(longest.unwrap_or(0));
+        self.ready = self.ready.max(after.ready.len());
+        self.live = self.live.max(after.numbers_in(|state| state != State::Free).len());
+        self.used = self.used.max(after.semaphores.iter().filter(|s| s.used).count());
+        self.tops += after.semaphores.iter().any(|s| s.count == i32::MAX) as u64;
+        self.semaphore_rounds += (after.next_semaphore < before.next_semaphore) as u64;
+        self.slot_rounds += (after.next_process < before.next_process) as u64;
+        let released = before.waiters > 1 && waiters(after, call.a) == 0;
+        match call.call {
+            0x04 => self.deletes_with_waiters += released as u64,
+            0x05 => self.resets_with_waiters += released as u64,
+            0x09 => self.kills_inside += before.inside as u64,
+            _ => (),
+        }
+    }
+
+    pub fn print(&self) {
+        println!(
+            "deepest: queue {}, ready list {}, live processes {}, used semaphores {}",
+            self.queue, self.ready, self.live, self.used
+        );
+        println!(
+            "calls with a count at the top {}, semaphore cursor gone round {}, process cursor gone round {}",
+            self.tops, self.semaphore_rounds, self.slot_rounds
+        );
+        println!(
+            "kills inside a queue {}, deletes with several waiters {}, resets with several waiters {}",
+            self.kills_inside, self.deletes_with_waiters, self.resets_with_waiters
+        );
+    }
+
+    pub fn deep(&self) -> bool {
+        let full = self.queue == 31 && self.ready == 31 && self.live == 32 && self.used == 120;
+        let round = self.semaphore_rounds > 0 && self.slot_rounds > 0;
+        let broken_up =
+            self.kills_inside > 0 && self.deletes_with_waiters > 0 && self.resets_with_waiters > 0;
+        full && round && broken_up && self.tops > 0
+    }
+}
+
+/// Neither the head nor the tail of a queue.
+fn inside_a_queue(t: &Tables, a: i32) -> bool {
+    let inside = |queue: &Vec<usize>| {
+        let place = queue.iter().position(|&p| p as i32 == a);
+        place.map_or(false, |place| place > 0 && place + 1 < queue.len())
+    };
+    t.semaphores.iter().any(|s| inside(&s.queue))
+}

@@ -1,0 +1,45 @@
+//! The command line.
+
+use compare::steps::View;
+
+pub struct Options {
+    pub view: View,
+    pub long: bool,
+    pub stop: bool,
+    pub seed: u64,
+    pub scale: usize,
+    pub parts: Vec<String>,
+    pub stream: Option<usize>,
+    pub bench: Vec<String>,
+}
+
+pub fn read(words: Vec<String>) -> Options {
+    let mut options = Options {
+        view: View::Bytes,
+        long: false,
+        stop: false,
+        seed: 1,
+        scale: 1,
+        parts: Vec::new(),
+        stream: None,
+        bench: Vec::new(),
+    };
+    let mut words = words.into_iter();
+    while let Some(word) = words.next() {
+        match word.as_str() {
+            "--long" => options.long = true,
+            "--stop" => options.stop = true,
+            "--lists" => options.view = View::Lists,
+            "--seed" => options.seed = number(words.next()),
+            "--scale" => options.scale = number(words.next()) as usize,
+            "stream" => options.stream = Some(number(words.next()) as usize),
+            "--" => options.bench = words.by_ref().collect(),
+            _ => options.parts.push(word),
+        }
+    }
+    options
+}
+
+fn number(word: Option<String>) -> u64 {
+    word.and_then(|word| word.parse().ok()).expect("a number")
+}

@@ -1,0 +1,37 @@
+//! How often each call was done and each refusal given.
+
+use crate::marks::Marks;
+
+#[derive(Default)]
+pub struct Tally {
+    pub compared: u64,
+    pub done: [u64; 12],
+    pub refused: [[u64; 16]; 12],
+    pub numbers: [u64; 16],
+    pub marks: Marks,
+}
+
+impl Tally {
+    /// Unknown calls stand at 0.
+    pub fn add(&mut self, call: u8, refusal: u8) {
+        let row = if (1..=11).contains(&call) { call as usize } else { 0 };
+        self.compared += 1;
+        self.numbers[refusal as usize] += 1;
+        match refusal {
+            0 => self.done[row] += 1,
+            _ => self.refused[row][refusal as usize] += 1,
+        }
+    }
+
+    pub fn print(&self) {
+        println!("calls compared: {}", self.compared);
+        for call in 0..12 {
+            let refused = self.refused[call].iter().enumerate().filter(|(_, &n)| n > 0);
+            let text: Vec<String> = refused.map(|(number, n)| format!("{}: {}", number, n)).collect();
+            let name = if call == 0 { "other".to_string() } else { format!("   {:02x}", call) };
+            println!("  {} done {:>8}, refused {}", name, self.done[call], text.join(", "));
+        }
+        let numbers: Vec<String> = (1..16).map(|n| format!("{}: {}", n, self.numbers[n])).collect();
+        println!("  refusals in all {}", numbers.join(", "));
+    }
+}

@@ -1,0 +1,156 @@
+/*
+ * A small board that plays one incident. A handler waits for the VLAN lock and
+ * is killed when its browser tab closes. Its number goes to a new handler, which
+ * is still suspended. Then the lock is given back: the new handler stays where
+ * it is, for no queue remembers the dead one.
+ */
+#include <stdio.h>
+#include <stdlib.h>
+#include <string.h>
+
+#include "../include/cottonsedge.h"
+
+/* docs/LAYOUT.md: a state byte for each process, and the row of all processes. */
+enum {
+    STATES = 0,
+    ROW = 664,
+    SUSPENDED = 3,
+    WAITING = 4
+};
+
+static uint8_t tables[COTTONSEDGE_LENGTH];
+static uint8_t running;
+
+static const char *const state_names[] = {"free", "current", "ready", "suspended"};
+
+/* The last line of every board: say why, and stop. */
+static void halt(const char *what, uint64_t answer)
+{
+    printf("halt: %s is refused with %d\n", what, cottonsedge_refusal(answer));
+    exit(EXIT_FAILURE);
+}
+
+static void print_waiters(unsigned semaphore, const char *name)
+{
+    int found = 0;
+
+    for (int i = 0; i < COTTONSEDGE_PROCESSES; i++) {
+        unsigned process = tables[ROW + i];
+        if (tables[STATES + process] != WAITING + semaphore)
+            continue;
+        printf("%s %u", found ? "," : "; waiting for", process);
+        found = 1;
+    }
+    if (found)
+        printf(" (%s)", name);
+}
+
+/* One call by the process that runs. A real board masks interrupts here, and
+   switches to the process told if it is another one than before. */
+static int32_t call(const char *what, uint8_t number, int32_t a, int32_t b)
+{
+    uint64_t answer = cottonsedge_call(tables, sizeof tables, number, a, b);
+
+    if (cottonsedge_refusal(answer) != COTTONSEDGE_DONE)
+        halt(what, answer);
+    running = cottonsedge_process(answer);
+    return cottonsedge_value(answer);
+}
+
+enum {
+    LOCK = 0,    /* the VLAN lock */
+    REQUESTS = 1 /* counts browser requests for the server */
+};
+
+/* One call, told with who runs and who waits afterwards. */
+static int32_t step(const char *what, uint8_t number, int32_t a, int32_t b)
+{
+    int32_t value = call(what, number, a, b);
+
+    printf("%-44s value %2ld; runs %d", what, (long)value, running);
+    print_waiters(LOCK, "lock");
+    print_waiters(REQUESTS, "requests");
+    printf("\n");
+    return value;
+}
+
+static void print_state(int32_t process)
+{
+    uint8_t state = tables[STATES + process];
+
+    printf("process %ld is %s; the lock counts %ld\n", (long)process,
+           state < WAITING ? state_names[state] : "waiting",
+           (long)call("count of the lock", COTTONSEDGE_COUNT, LOCK, 0));
+}
+
+static void start_up(void)
+{
+    if (cottonsedge_boot(tables, sizeof tables) != 0)
+        exit(EXIT_FAILURE);
+    step("make the VLAN lock, free", COTTONSEDGE_MAKE_SEMAPHORE, 1, 0);
+    step("make the semaphore of requests", COTTONSEDGE_MAKE_SEMAPHORE, 0, 0);
+    step("make the server, priority 30", COTTONSEDGE_MAKE_PROCESS, 30, 0);
+    step("resume the server", COTTONSEDGE_RESUME, 1, 0);
+}
+
+/* The server makes two handlers; the first holds the lock, the second waits. */
+static int32_t two_handlers(void)
+{
+    int32_t holder = step("server: make a handler, priority 20", COTTONSEDGE_MAKE_PROCESS, 20, 0);
+    int32_t waiter = step("server: make another", COTTONSEDGE_MAKE_PROCESS, 20, 0);
+
+    step("server: resume the first", COTTONSEDGE_RESUME, holder, 0);
+    step("server: resume the second", COTTONSEDGE_RESUME, waiter, 0);
+    step("server: wait for a request", COTTONSEDGE_WAIT, REQUESTS, 0);
+    step("first handler: take the lock", COTTONSEDGE_WAIT, LOCK, 0);
+    step("first handler: yield", COTTONSEDGE_YIELD, 0, 0);
+    step("second handler: wait for the lock", COTTONSEDGE_WAIT, LOCK, 0);
+    return waiter;
+}
+
+/* Tabs are opened and closed until the killed handler's number comes round. */
+static int32_t number_again(int32_t number)
+{
+    int tabs = 0;
+
+    for (;;) {
+        int32_t made = call("make a handler", COTTONSEDGE_MAKE_PROCESS, 20, 0);
+        if (made == number) {
+            printf("server: %d more tabs opened and closed, then a new handler gets number %ld\n", tabs, (long)made);
+            return made;
+        }
+        call("kill a handler", COTTONSEDGE_KILL, made, 0);
+        tabs++;
+    }
+}
+
+/* A damaged byte is noticed before anything is done. */
+static int damage_is_refused(void)
+{
+    uint8_t damaged[COTTONSEDGE_LENGTH];
+
+    memcpy(damaged, tables, sizeof damaged);
+    damaged[STATES] = SUSPENDED;
+    uint64_t answer = cottonsedge_call(damaged, sizeof damaged, COTTONSEDGE_YIELD, 0, 0);
+    printf("a copy that says process 0 is suspended: refused with %d, runs %d\n",
+           cottonsedge_refusal(answer), cottonsedge_process(answer));
+    return cottonsedge_refusal(answer) == COTTONSEDGE_UNSOUND;
+}
+
+int main(void)
+{
+    start_up();
+    int32_t dead = two_handlers();
+    step("a request comes in", COTTONSEDGE_SIGNAL, REQUESTS, 0);
+    step("server: the tab closed, kill the second", COTTONSEDGE_KILL, dead, 0);
+    int32_t reborn = number_again(dead);
+    step("server: wait for a request", COTTONSEDGE_WAIT, REQUESTS, 0);
+    step("first handler: give the lock back", COTTONSEDGE_SIGNAL, LOCK, 0);
+    print_state(reborn);
+    if (tables[STATES + reborn] != SUSPENDED)
+        return EXIT_FAILURE;
+    step("first handler: resume the new one", COTTONSEDGE_RESUME, reborn, 0);
+    step("new handler: take the lock", COTTONSEDGE_WAIT, LOCK, 0);
+    print_state(reborn);
+    return damage_is_refused() ? EXIT_SUCCESS : EXIT_FAILURE;
+}

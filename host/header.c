@@ -1,0 +1,138 @@
+/*
+ * The header's names against the library, in C99 and in C++: the length, each
+ * call number, each refusal number, and the three fields of an answer.
+ */
+#include <stdio.h>
+#include <string.h>
+
+#include "../include/cottonsedge.h"
+
+static uint8_t tables[COTTONSEDGE_LENGTH];
+static int failed;
+
+static void check(const char *what, long found, long expected)
+{
+    if (found == expected) {
+        printf("ok: header, %s\n", what);
+    } else {
+        printf("FAILED: header, %s: %ld, not %ld\n", what, found, expected);
+        failed = 1;
+    }
+}
+
+static void boot(void)
+{
+    cottonsedge_boot(tables, sizeof tables);
+}
+
+static uint64_t call(uint8_t number, int32_t a, int32_t b)
+{
+    return cottonsedge_call(tables, sizeof tables, number, a, b);
+}
+
+static int32_t value(uint8_t number, int32_t a, int32_t b)
+{
+    return cottonsedge_value(call(number, a, b));
+}
+
+static uint8_t refusal(uint8_t number, int32_t a, int32_t b)
+{
+    return cottonsedge_refusal(call(number, a, b));
+}
+
+static void fields(void)
+{
+    uint64_t answer = UINT64_C(0x0a8000000011);
+
+    check("refusal of an answer", cottonsedge_refusal(answer), COTTONSEDGE_NULL_PROCESS);
+    check("process of an answer", cottonsedge_process(answer), 17);
+    check("the lowest value", cottonsedge_value(answer) == INT32_MIN, 1);
+    check("the highest value", cottonsedge_value(UINT64_C(0x7fffffff00)) == INT32_MAX, 1);
+    check("value -1", cottonsedge_value(UINT64_C(0xffffffff00)), -1);
+    check("value 0", cottonsedge_value(UINT64_C(0x0f00000000ff)), 0);
+}
+
+static void length(void)
+{
+    uint8_t more[COTTONSEDGE_LENGTH + 1];
+
+    memset(more, 0, sizeof more);
+    check("698 bytes", COTTONSEDGE_LENGTH, 698);
+    check("boot of the length", cottonsedge_boot(tables, COTTONSEDGE_LENGTH), COTTONSEDGE_DONE);
+    check("check of the length", cottonsedge_check(tables, COTTONSEDGE_LENGTH), COTTONSEDGE_DONE);
+    check("boot of one less", cottonsedge_boot(tables, COTTONSEDGE_LENGTH - 1), COTTONSEDGE_UNSOUND);
+    check("boot of one more", cottonsedge_boot(more, COTTONSEDGE_LENGTH + 1), COTTONSEDGE_UNSOUND);
+    check("check of one less", cottonsedge_check(tables, COTTONSEDGE_LENGTH - 1), COTTONSEDGE_UNSOUND);
+}
+
+/* Each call by its name does what its name says. */
+static void calls(void)
+{
+    boot();
+    check("MAKE_SEMAPHORE", value(COTTONSEDGE_MAKE_SEMAPHORE, 5, 0), 0);
+    check("COUNT", value(COTTONSEDGE_COUNT, 0, 0), 5);
+    check("WAIT", value(COTTONSEDGE_WAIT, 0, 0), 1);
+    check("WAIT lowers the count", value(COTTONSEDGE_COUNT, 0, 0), 4);
+    check("SIGNAL", value(COTTONSEDGE_SIGNAL, 0, 0), 1);
+    check("SIGNAL raises the count", value(COTTONSEDGE_COUNT, 0, 0), 5);
+    check("RESET", value(COTTONSEDGE_RESET, 0, 9), 1);
+    check("RESET sets the count", value(COTTONSEDGE_COUNT, 0, 0), 9);
+    check("MAKE_PROCESS", value(COTTONSEDGE_MAKE_PROCESS, 7, 0), 1);
+    check("MAKE_PROCESS again", value(COTTONSEDGE_MAKE_PROCESS, 7, 0), 2);
+    check("RESUME", value(COTTONSEDGE_RESUME, 1, 0), 7);
+    check("RESUME runs it", cottonsedge_process(call(COTTONSEDGE_RESUME, 2, 0)), 2);
+    check("YIELD", cottonsedge_process(call(COTTONSEDGE_YIELD, 0, 0)), 1);
+    check("SUSPEND", cottonsedge_process(call(COTTONSEDGE_SUSPEND, 1, 0)), 2);
+    check("KILL", cottonsedge_process(call(COTTONSEDGE_KILL, 2, 0)), 0);
+    check("DELETE", value(COTTONSEDGE_DELETE, 0, 0), 1);
+    check("DELETE frees it", refusal(COTTONSEDGE_COUNT, 0, 0), COTTONSEDGE_SEMAPHORE_FREE);
+}
+
+static void refusals_of_semaphores(void)
+{
+    boot();
+    check("NO_SUCH_SEMAPHORE", refusal(COTTONSEDGE_WAIT, COTTONSEDGE_SEMAPHORES, 0), COTTONSEDGE_NO_SUCH_SEMAPHORE);
+    check("SEMAPHORE_FREE", refusal(COTTONSEDGE_WAIT, COTTONSEDGE_SEMAPHORES - 1, 0), COTTONSEDGE_SEMAPHORE_FREE);
+    check("COUNT_BELOW_0", refusal(COTTONSEDGE_MAKE_SEMAPHORE, -1, 0), COTTONSEDGE_COUNT_BELOW_0);
+    for (int s = 0; s < COTTONSEDGE_SEMAPHORES; s++)
+        call(COTTONSEDGE_MAKE_SEMAPHORE, INT32_MAX, 0);
+    check("SEMAPHORES_USED_UP", refusal(COTTONSEDGE_MAKE_SEMAPHORE, 0, 0), COTTONSEDGE_SEMAPHORES_USED_UP);
+    check("COUNT_AT_TOP", refusal(COTTONSEDGE_SIGNAL, 0, 0), COTTONSEDGE_COUNT_AT_TOP);
+}
+
+static void refusals_of_processes(void)
+{
+    boot();
+    check("NO_SUCH_PROCESS", refusal(COTTONSEDGE_KILL, COTTONSEDGE_PROCESSES, 0), COTTONSEDGE_NO_SUCH_PROCESS);
+    check("SLOT_FREE", refusal(COTTONSEDGE_KILL, COTTONSEDGE_PROCESSES - 1, 0), COTTONSEDGE_SLOT_FREE);
+    for (int p = 1; p < COTTONSEDGE_PROCESSES; p++)
+        call(COTTONSEDGE_MAKE_PROCESS, COTTONSEDGE_HIGHEST_PRIORITY, 0);
+    check("SLOTS_USED_UP", refusal(COTTONSEDGE_MAKE_PROCESS, 1, 0), COTTONSEDGE_SLOTS_USED_UP);
+    check("WRONG_STATE", refusal(COTTONSEDGE_SUSPEND, 1, 0), COTTONSEDGE_WRONG_STATE);
+    check("NULL_PROCESS", refusal(COTTONSEDGE_SUSPEND, 0, 0), COTTONSEDGE_NULL_PROCESS);
+    check("PRIORITY_RANGE", refusal(COTTONSEDGE_MAKE_PROCESS, COTTONSEDGE_HIGHEST_PRIORITY + 1, 0), COTTONSEDGE_PRIORITY_RANGE);
+}
+
+static void shared_refusals(void)
+{
+    boot();
+    check("BAD_LINE is the bench's 12", COTTONSEDGE_BAD_LINE, 12);
+    check("NO_SUCH_CALL", refusal(COTTONSEDGE_COUNT + 1, 0, 0), COTTONSEDGE_NO_SUCH_CALL);
+    check("SPARE_ARGUMENT", refusal(COTTONSEDGE_YIELD, 1, 0), COTTONSEDGE_SPARE_ARGUMENT);
+    memset(tables, 0, sizeof tables);
+    uint64_t answer = call(COTTONSEDGE_YIELD, 0, 0);
+    check("UNSOUND", cottonsedge_refusal(answer), COTTONSEDGE_UNSOUND);
+    check("UNSOUND has value -1", cottonsedge_value(answer), -1);
+    check("UNSOUND tells NOBODY", cottonsedge_process(answer), COTTONSEDGE_NOBODY);
+}
+
+int main(void)
+{
+    fields();
+    length();
+    calls();
+    refusals_of_semaphores();
+    refusals_of_processes();
+    shared_refusals();
+    return failed;
+}

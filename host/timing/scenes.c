@@ -1,0 +1,39 @@
+#include "scenes.h"
+
+#include "../../include/cottonsedge.h"
+
+/* n processes of one priority, started one by one; each runs at once. */
+static void start(const Contender *contender, void *tables, int32_t priority)
+{
+    uint64_t made = contender->one(tables, COTTONSEDGE_MAKE_PROCESS, priority, 0);
+
+    contender->one(tables, COTTONSEDGE_RESUME, cottonsedge_value(made), 0);
+}
+
+/* n processes wait on semaphore 0 and process 0 runs. */
+static void waiters(const Contender *contender, void *tables, int n)
+{
+    contender->boot(tables);
+    contender->one(tables, COTTONSEDGE_MAKE_SEMAPHORE, 0, 0);
+    for (int i = 0; i < n; i++) {
+        start(contender, tables, 20);
+        contender->one(tables, COTTONSEDGE_WAIT, 0, 0);
+    }
+}
+
+/* n processes are ready, process 0 among them, and one of their equals runs. */
+static void ready(const Contender *contender, void *tables, int n)
+{
+    contender->boot(tables);
+    for (int i = 0; i < n; i++)
+        start(contender, tables, 20);
+}
+
+const Scene scenes[] = {
+    {"count of a, n waiting", waiters, {{COTTONSEDGE_COUNT, 0, 0}, {0, 0, 0}}, 1},
+    {"signal, then the released one waits again, n waiting", waiters,
+     {{COTTONSEDGE_SIGNAL, 0, 0}, {COTTONSEDGE_WAIT, 0, 0}}, 2},
+    {"yield, n ready", ready, {{COTTONSEDGE_YIELD, 0, 0}, {0, 0, 0}}, 1},
+};
+
+const size_t scenes_count = sizeof scenes / sizeof scenes[0];

@@ -1,0 +1,112 @@
+/*
+ * cottonsedge.h - who runs: the process table, the ready list and the counting
+ * semaphores of a small switch, as the firmware sees them.
+ *
+ * The library keeps nothing between calls, allocates nothing and calls nothing
+ * of the board's. All it knows stands in the COTTONSEDGE_LENGTH bytes that the
+ * caller owns and lends to each call. Two tables are two kernels.
+ *
+ * Of the three functions a caller may rely on this:
+ *   - `tables` must point to `length` bytes, at any alignment, that nobody else
+ *     touches during the call: mask interrupts around it;
+ *   - any bytes may be lent, sound or not, and any numbers passed: there is
+ *     always an answer, and never a read or write outside the lent bytes;
+ *   - a refused call leaves every lent byte as it was.
+ */
+#ifndef COTTONSEDGE_H
+#define COTTONSEDGE_H
+
+#include <stddef.h>
+#include <stdint.h>
+
+#ifdef __cplusplus
+extern "C" {
+#endif
+
+/* The number of bytes to lend: no more and no less. */
+#define COTTONSEDGE_LENGTH 698
+
+/* The limits of the tables. */
+#define COTTONSEDGE_PROCESSES 32
+#define COTTONSEDGE_SEMAPHORES 120
+#define COTTONSEDGE_HIGHEST_PRIORITY 63
+
+/* The process told beside refusal 15: nobody can be said to run. */
+#define COTTONSEDGE_NOBODY 255
+
+/* Call numbers. The caller is always the current process; an argument that is
+   not named here must be 0. The value beside each is given when it is done. */
+enum {
+    COTTONSEDGE_WAIT = 0x01,           /* a: semaphore; 1, also if the caller now waits */
+    COTTONSEDGE_SIGNAL = 0x02,         /* a: semaphore; 1 */
+    COTTONSEDGE_MAKE_SEMAPHORE = 0x03, /* a: count; the semaphore's number */
+    COTTONSEDGE_DELETE = 0x04,         /* a: semaphore; 1 */
+    COTTONSEDGE_RESET = 0x05,          /* a: semaphore, b: count; 1 */
+    COTTONSEDGE_MAKE_PROCESS = 0x06,   /* a: priority 1 to 63; the number, suspended */
+    COTTONSEDGE_RESUME = 0x07,         /* a: process; its priority */
+    COTTONSEDGE_SUSPEND = 0x08,        /* a: process; its priority */
+    COTTONSEDGE_KILL = 0x09,           /* a: process; 1 */
+    COTTONSEDGE_YIELD = 0x0a,          /* 1 */
+    COTTONSEDGE_COUNT = 0x0b           /* a: semaphore; its count */
+};
+
+/* Refusal numbers. Every refused call has value -1 and changed nothing. */
+enum {
+    COTTONSEDGE_DONE = 0,                /* no refusal */
+    COTTONSEDGE_NO_SUCH_SEMAPHORE = 1,   /* number below 0 or above 119 */
+    COTTONSEDGE_SEMAPHORE_FREE = 2,      /* that semaphore is free */
+    COTTONSEDGE_COUNT_BELOW_0 = 3,       /* count argument below 0 */
+    COTTONSEDGE_SEMAPHORES_USED_UP = 4,  /* all 120 are used */
+    COTTONSEDGE_COUNT_AT_TOP = 5,        /* count is 2,147,483,647 */
+    COTTONSEDGE_NO_SUCH_PROCESS = 6,     /* number below 0 or above 31 */
+    COTTONSEDGE_SLOT_FREE = 7,           /* that slot is free */
+    COTTONSEDGE_SLOTS_USED_UP = 8,       /* slots 1 to 31 are all live */
+    COTTONSEDGE_WRONG_STATE = 9,         /* resume: not suspended; suspend: neither ready nor current */
+    COTTONSEDGE_NULL_PROCESS = 10,       /* kill or suspend of process 0, or a wait that would block it */
+    COTTONSEDGE_PRIORITY_RANGE = 11,     /* priority below 1 or above 63 */
+    COTTONSEDGE_BAD_LINE = 12,           /* bench program only */
+    COTTONSEDGE_NO_SUCH_CALL = 13,       /* call number not in 01 to 0b */
+    COTTONSEDGE_SPARE_ARGUMENT = 14,     /* an argument the call doesn't use isn't 0 */
+    COTTONSEDGE_UNSOUND = 15             /* the bytes lent aren't sound tables, or not 698 */
+};
+
+/* Writes the boot tables: process 0 current, all else free. Answers 0, or 15
+   with nothing written if `length` is not COTTONSEDGE_LENGTH. The bytes found
+   there don't matter. */
+uint8_t cottonsedge_boot(uint8_t *tables, size_t length);
+
+/* Makes one call. The answer is refusal, value and process now current, to be
+   read with the three functions below. Tables that aren't sound are left as
+   they came, and the answer is 15, -1 and COTTONSEDGE_NOBODY. */
+uint64_t cottonsedge_call(uint8_t *tables, size_t length, uint8_t call, int32_t a, int32_t b);
+
+/* Answers 0 if the bytes are sound tables, else 15. Writes nothing. Every call
+   makes this check itself. */
+uint8_t cottonsedge_check(const uint8_t *tables, size_t length);
+
+/* The refusal in an answer, COTTONSEDGE_DONE for none. */
+static inline uint8_t cottonsedge_refusal(uint64_t answer)
+{
+    return (uint8_t)(answer >> 40 & 0xff);
+}
+
+/* The value in an answer; -1 when refused. */
+static inline int32_t cottonsedge_value(uint64_t answer)
+{
+    uint32_t bits = (uint32_t)(answer >> 8 & 0xffffffff);
+
+    /* no cast of a number that int32_t cannot hold */
+    return bits <= 0x7fffffff ? (int32_t)bits : -1 - (int32_t)(0xffffffff - bits);
+}
+
+/* The process current after the call: the one to run next. */
+static inline uint8_t cottonsedge_process(uint64_t answer)
+{
+    return (uint8_t)(answer & 0xff);
+}
+
+#ifdef __cplusplus
+}
+#endif
+
+#endif
