@@ -18,7 +18,6 @@ use Rattle.rules.specs.declared.Outcome.{Outcome}
 use Rattle.soundness.specs.Good.{good}
 use Rattle.soundness.specs.Tallies.{sumOf}
 use Rattle.tables.specs.Readers.{currentOf}
-use Rattle.tables.specs.Sound.{Sound}
 use Rattle.tables.specs.States.{isCurrent}
 use Rattle.tables.specs.Test.{soundNow}
 use Rattle.tables.specs.declared.Tables.{Tables}
@@ -26,10 +25,8 @@ use Rattle.layout.proofs.Image.{bytes-back, same-bytes, stands-is, stands-made,
 use Rattle.lists.proofs.Bools.{split}
 use Rattle.rules.proofs.Kept.{sound-numbered}
 use Rattle.rules.proofs.Numbers.{enter-sound, enter-unsound}
-use Rattle.tables.proofs.Lines.{current-sum}
-use Rattle.tables.proofs.TestLaws.{of-row}
 use Rattle.cottonsedge.specs.Entries.{answerOf, bootAnswer, booted, bytesAfter, checkAnswer, packed}
-use Rattle.cottonsedge.proofs.Standing.{good-formed, good-sound}
+use Rattle.cottonsedge.proofs.Standing.{good-formed, good-sound, running-is}
 
 module _ (bs : List ℕ) (n : ℕ) (a b : ℤ) (g : good bs ≡ false) where
   unsound : wellFormed bs ≡ true → soundNow (fromBytes bs) ≡ false
@@ -45,10 +42,6 @@ module _ (bs : List ℕ) (n : ℕ) (a b : ℤ) (g : good bs ≡ false) where
   refused-bytes byte = split (wellFormed bs) (λ wf. sym (rw (wf, enter-unsound (fromBytes bs) a b n (unsound wf) .0) (bytes-back bs byte wf))) (λ wf. sym (rw wf))
 
 -- Good bytes are called by the rules
-
--- the sum of the numbers of the current processes is the one that runs
-pub running-is : {t : Tables} → Sound t → sumOf t isCurrent ≡ currentOf t
-running-is {t} S = sym (current-sum t (S .laid .places) (of-row (t .order) (S .laid .places) (S .laid .order)) (S .running .one))
 
 module _ (bs after : List ℕ) (n : ℕ) (a b : ℤ) (r : Answer) (byte : (i : ℕ) → getD bs i 0 < 256) (g : good bs ≡ true)
     (d : Does (λ t. numbered t n a b .tables) (λ t. numbered t n a b .answer) bs after r) where

@@ -5,7 +5,7 @@ use Prim.Native.Nat.{_<_, _≤_, ℕ}
 use native.Mathlib.Omega.{arith}
 use mathlib.Core.Bool.{true}
 use mathlib.Core.List.{List}
-use mathlib.Core.Path.{_∙_, _≡_, refl}
+use mathlib.Core.Path.{_∙_, _≡_, refl, subst, sym}
 use lib.ListN.{getD, length}
 use borrow.Author.Tests.{le-ltb}
 use Rattle.layout.specs.Bytes.{fromBytes, toBytes, wellFormed}
@@ -13,26 +13,31 @@ use Rattle.layout.specs.Stands.{CountsFit, Held, Named}
 use Rattle.lists.specs.Lists.{times}
 use Rattle.soundness.specs.Good.{good}
 use Rattle.tables.specs.Limits.{processLimit}
-use Rattle.tables.specs.Readers.{stateOf}
+use Rattle.tables.specs.Readers.{currentOf, stateOf}
 use Rattle.tables.specs.Sound.{Sound}
 use Rattle.tables.specs.Test.{soundNow}
 use Rattle.tables.specs.declared.State.{State}
 use Rattle.tables.specs.declared.State.the-variants.{Current, Free, Ready, Suspended, Waiting}
 use Rattle.tables.specs.declared.Tables.{Tables}
+use Rattle.soundness.specs.Tallies.{sumOf}
+use Rattle.tables.specs.States.{isCurrent}
 use Rattle.layout.proofs.Image.{formed-made, tables-back}
 use Rattle.lists.proofs.Bools.{and-in, below?, both}
 use Rattle.lists.proofs.Rows.{times-at}
-use Rattle.tables.proofs.Sentences.{waiter-below}
-use Rattle.tables.proofs.TestLaws.{checked-sound, sound-checked}
+use Rattle.tables.proofs.Sentences.{current-below, waiter-below}
+use Rattle.tables.proofs.TestLaws.{checked-sound, of-row, sound-checked}
+use Rattle.tables.proofs.Lines.{current-sum}
 
 pub sound-held : {t : Tables} → Sound t → CountsFit t → Held t
 sound-held {t} S fits =
-    record { slots = S .laid .slots
-           ; entries = S .laid .entries
-           ; places = S .laid .places
-           ; waits = λ p h. named p (stateOf t p) refl
-           ; counts = fits
-           ; row = λ i h. let l : length (t .order) ≡ processLimit = S .laid .places in placed (getD (t .order) i 0) (times-at (t .order) i (omega arith)) }
+    record {
+      slots = S .laid .slots;
+      entries = S .laid .entries;
+      places = S .laid .places;
+      waits = λ p h. named p (stateOf t p) refl;
+      counts = fits;
+      row = λ i h. let l : length (t .order) ≡ processLimit = S .laid .places in placed (getD (t .order) i 0) (times-at (t .order) i (omega arith));
+    }
   where
     named : (p : ℕ) (st : State) → stateOf t p ≡ st → Named st
     named p Free e = tt
@@ -40,6 +45,7 @@ sound-held {t} S fits =
     named p Ready e = tt
     named p Suspended e = tt
     named p (Waiting s) e = waiter-below S p s e
+
     placed : (p : ℕ) → 1 ≤ times p (t .order) → p < processLimit
     placed p k = below? p processLimit (λ h. h) (λ h. let e : times p (t .order) ≡ 0 = S .laid .order p ∙ rw (le-ltb p processLimit h) in absurd (omega arith))
 
@@ -58,3 +64,10 @@ module _ (bs : List ℕ) (g : good bs ≡ true) where
 pub sound-good : {t : Tables} → Sound t → CountsFit t → good (toBytes t) ≡ true
 unfolding good
 sound-good {t} S fits = let h = sound-held S fits in and-in (formed-made t h) (rw (tables-back t h) (sound-checked S))
+
+-- the sum of the numbers of the current processes is the one that runs
+pub running-is : {t : Tables} → Sound t → sumOf t isCurrent ≡ currentOf t
+running-is {t} S = sym (current-sum t (S .laid .places) (of-row (t .order) (S .laid .places) (S .laid .order)) (S .running .one))
+
+pub running-small : (bs : List ℕ) → good bs ≡ true → (c : ℕ) → c ≡ sumOf (fromBytes bs) isCurrent → c < processLimit
+running-small bs g c e = let S = good-sound bs g in subst (λ (p : ℕ). p < processLimit) (sym (e ∙ running-is S)) (current-below S)

@@ -29,8 +29,7 @@ use Rattle.layout.proofs.Image.{byte-at, formed-place, formed-state, place-byte
 use Rattle.lists.proofs.Bools.{below?, split}
 use Rattle.rules.proofs.Kept.{sound-numbered}
 use Rattle.tables.proofs.TestLaws.{checked-sound, sound-checked}
-use Rattle.cottonsedge.proofs.Entry.{running-is}
-use Rattle.cottonsedge.proofs.Standing.{good-formed, good-sound, sound-good}
+use Rattle.cottonsedge.proofs.Standing.{good-formed, good-sound, running-is, sound-good}
 
 module _ (t : Tables) (n : ℕ) (a b : ℤ) (slots : length (t .processes) ≡ processLimit) (entries : length (t .semaphores) ≡ semaphoreLimit) (places : length (t .order) ≡ processLimit) (fits : CountsFit t) where
   pub value-unsound : good (toBytes t) ≡ false → record { outcome = refused 15 t; running = nobody } ≡ enter t n a b
@@ -48,12 +47,14 @@ module _ (t : Tables) (n : ℕ) (a b : ℤ) (slots : length (t .processes) ≡ p
     held : Held t
     held =
         let wf = good-formed (toBytes t) g in
-        record { slots = slots
-               ; entries = entries
-               ; places = places
-               ; waits = λ p h. state-named (stateOf t p) (subst (λ (k : ℕ). k < 4 + semaphoreLimit) (byte-at t (statesAt + p) (omega arith) ∙ state-byte t p h) (formed-state (toBytes t) wf p h))
-               ; counts = fits
-               ; row = λ i h. subst (λ (k : ℕ). k < processLimit) (byte-at t (orderAt + i) (omega arith) ∙ place-byte t i h) (formed-place (toBytes t) wf i h) }
+        record {
+          slots = slots;
+          entries = entries;
+          places = places;
+          waits = λ p h. state-named (stateOf t p) (subst (λ (k : ℕ). k < 4 + semaphoreLimit) (byte-at t (statesAt + p) (omega arith) ∙ state-byte t p h) (formed-state (toBytes t) wf p h));
+          counts = fits;
+          row = λ i h. subst (λ (k : ℕ). k < processLimit) (byte-at t (orderAt + i) (omega arith) ∙ place-byte t i h) (formed-place (toBytes t) wf i h);
+        }
 
     sound : Sound t
     sound = subst Sound (tables-back t held) (good-sound (toBytes t) g)

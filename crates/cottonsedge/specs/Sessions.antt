@@ -23,7 +23,9 @@ unpacked r = if eqb (r / 1099511627776) 0 then Done (toZ w32 (r / 256 % 42949672
 unfoldable pub answersLeft : List ℕ → List Request → List Entry
 answersLeft start [] = []
 answersLeft start (q ∷ earlier) =
-    record { caller = currentByte (bytesLeft start earlier)
-           ; request = q
-           ; answer = unpacked (answerOf (bytesLeft start earlier) (q .number) (q .a) (q .b)) }
+    record {
+      caller = currentByte (bytesLeft start earlier);
+      request = q;
+      answer = unpacked (answerOf (bytesLeft start earlier) (q .number) (q .a) (q .b));
+    }
     ∷ answersLeft start earlier

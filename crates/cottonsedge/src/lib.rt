@@ -1,1 +1,4 @@
-// stub
+// What the firmware calls: over numbers and lent bytes, with nothing asked of the caller.
+pub mod answer;
+pub mod boot;
+pub mod check;

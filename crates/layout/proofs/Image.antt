@@ -202,6 +202,7 @@ formed-made t h =
     state-small Ready n = omega arith
     state-small Suspended n = omega arith
     state-small (Waiting q) n = rw (lt-ltb q semaphoreLimit n) (omega arith)
+
     used-small : (u : Bool) → usedByte u < 2
     used-small true = omega arith
     used-small false = omega arith

@@ -45,16 +45,18 @@ pub fn waiters(bytes: &[u8]) -> [u8; Tables::SEMAPHORES]
     many
 }
 
+// The count and those that wait add up to 0, but for a used semaphore that nobody waits on. As one sum, so that a count is read as one word.
 fn count_fits(used: u8, count: u32, many: u8) -> bool
     ensures { λ r. ⌜ r ≡ countFits (eqb used 1) (toZ w32 count) many ⌝ }
 {
+    let sum = std::num::wrapping_add_u32(count, many as u32);
     if used == 1 {
-        if count < 2147483648 {
-            return many == 0;
+        if many == 0 {
+            return sum < 2147483648;
         }
-        return 4294967295 - count + 1 == many as u32;
+        return sum == 0;
     }
-    (count == 0) & (many == 0)
+    (sum == 0) & (many == 0)
 }
 
 pub fn counts_fit(bytes: &[u8], many: [u8; Tables::SEMAPHORES]) -> bool

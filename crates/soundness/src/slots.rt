@@ -36,8 +36,8 @@ pub fn slots_fit(bytes: &[u8]) -> bool
     ensures { λ r. ⌜ r ≡ all processLimit (λ p. eqb p 0 || slotFits (process (fromBytes (now (bytes .entry))) p)) ⌝ }
 {
     let mut ok = true;
-    for i in 1..Tables::PROCESSES {
-        ok = ok & slot_fits(bytes[i], bytes[PRIORITIES + i]);
+    for i in 0..Tables::PROCESSES {
+        ok = ok & ((i == 0) | slot_fits(bytes[i], bytes[PRIORITIES + i]));
     }
     ok
 }

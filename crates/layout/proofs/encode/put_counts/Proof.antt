@@ -85,12 +85,15 @@ loop-less c = search needs
 loop-again : tie.Need-loop-again Inv-loop μ-loop
 loop-again c =
     let i = c .before .before .before .before .loop .i in
-    let f : SFits w32 (getD (c .before .before .before .before .before .before .before .args .t .semaphores) i freeSemaphore .count) = search needs in
-    (search needs, simp length-set (c .before .before .before .before .loop .inv .1),
-     (λ t e b.
-       let u : c .unsigned .result ≡ ofZ w32 (countOf t i) = c .unsigned .ensures ∙ ap (ofZ w32) (toZ-ofZ w32 _ f) ∙ ap (λ (xs : List Semaphore). ofZ w32 (getD xs i freeSemaphore .count)) (sym e) in
-       subst (λ (n : ℕ). Begun t (countsAt + (i + 1) * 4) (store4 (c .before .before .before .before .loop .bytes) (countsAt + i * 4) n)) (sym u) (begun-count t i (c .before .before .before .before .loop .bytes) (omega arith) (c .before .before .before .before .loop .inv .2 t e b))), search needs,
-     (λ s h. either s i (λ q. rw q f) (λ n. c .before .before .before .before .loop .inv .4 s (omega arith))))
+    let f : SFits w32 (getD (c .before .before .before .before .before .before .before .args .t .semaphores) i freeSemaphore .count) = search needs in (
+      search needs,
+      simp length-set (c .before .before .before .before .loop .inv .1),
+      (λ t e b.
+          let u : c .unsigned .result ≡ ofZ w32 (countOf t i) = c .unsigned .ensures ∙ ap (ofZ w32) (toZ-ofZ w32 _ f) ∙ ap (λ (xs : List Semaphore). ofZ w32 (getD xs i freeSemaphore .count)) (sym e) in
+          subst (λ (n : ℕ). Begun t (countsAt + (i + 1) * 4) (store4 (c .before .before .before .before .loop .bytes) (countsAt + i * 4) n)) (sym u) (begun-count t i (c .before .before .before .before .loop .bytes) (omega arith) (c .before .before .before .before .loop .inv .2 t e b))),
+      search needs,
+      (λ s h. either s i (λ q. rw q f) (λ n. c .before .before .before .before .loop .inv .4 s (omega arith))),
+    )
 
 same-length : tie.Need-same-length Inv-loop μ-loop
 same-length c = search needs
