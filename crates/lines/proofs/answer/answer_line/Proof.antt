@@ -1,0 +1,70 @@
+-- By the two cases of a line.
+use mathlib.Core.Path.{refl, sym, _∙_}
+use mir.ValLaws.{toZ-ofZ}
+use mir.Syntax.{w32}
+use mir.Val.{SFits}
+use lib.IntN.{ℤ}
+use borrow.Author.Needs.{needs}
+use Rattle.lines.proofs.answer.answer_line.Statement.{statement}
+use Rattle.lines.proofs.answer.answer_line.Tie as tie
+
+read-line-requires : tie.Need-read-line-requires
+read-line-requires c κs = search needs
+
+enum-known-n : tie.Need-enum-known-n
+enum-known-n c = search needs
+
+cottonsedge-call-requires : tie.Need-cottonsedge-call-requires
+cottonsedge-call-requires c κs = search needs
+
+enum-told : tie.Need-enum-told
+enum-told c = search needs
+
+current-requires : tie.Need-current-requires
+current-requires c κs = search needs
+
+cast-result : tie.Need-cast-result
+cast-result c = search needs
+
+add-result : tie.Need-add-result
+add-result c = search needs
+
+same-length : tie.Need-same-length
+same-length c = search needs
+
+returns : tie.Need-returns
+returns c =
+    let at-cottonsedge-call = c .before .before in
+    let at-n = at-cottonsedge-call .before .before .before in
+    let at-read-line = at-n .before .before in
+    let told = at-n .n .given .0 in
+    let a : ℤ = told .1 .0 in
+    let b : ℤ = told .1 .1 .0 in
+    let fits-a : SFits w32 a = search needs in
+    let fits-b : SFits w32 b = search needs in
+    rw (sym (at-read-line .read-line .ensures) ∙ at-n .n .given .1) (rw (toZ-ofZ w32 a fits-a, toZ-ofZ w32 b fits-b) at (at-cottonsedge-call .cottonsedge-call .ensures))
+
+same-length-2 : tie.Need-same-length-2
+same-length-2 c = search needs
+
+returns-2 : tie.Need-returns-2
+returns-2 c =
+    let at-enum-told = c .before .before in
+    let at-read-line = at-enum-told .before .before in
+    rw (sym (at-read-line .read-line .ensures) ∙ at-enum-told .enum-told .given .1, c .current .ensures) (refl, refl)
+
+pub answer-line-spec : {M : Type 1} → statement M
+answer-line-spec =
+    tie.close
+    (tie.spec
+    read-line-requires
+    enum-known-n
+    cottonsedge-call-requires
+    enum-told
+    current-requires
+    cast-result
+    add-result
+    same-length
+    returns
+    same-length-2
+    returns-2)

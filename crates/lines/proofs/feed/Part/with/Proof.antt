@@ -1,0 +1,20 @@
+-- There is place for the character, or 19 are held already.
+use Rattle.lines.proofs.FeedLaws.{held-more, held-full}
+use borrow.Author.Needs.{needs}
+use Rattle.lines.proofs.feed.Part.with.Statement.{statement}
+use Rattle.lines.proofs.feed.Part.with.Tie as tie
+
+array-write-bytes : tie.Need-array-write-bytes
+array-write-bytes c = search needs
+
+add-t9 : tie.Need-add-t9
+add-t9 c = search needs
+
+returns : tie.Need-returns
+returns c = held-more (c .before .before .args .self .bytes) (c .before .before .args .self .count) (c .before .before .args .c) (search needs) (c .before .if1 .taken)
+
+returns-2 : tie.Need-returns-2
+returns-2 c = held-full (c .before .args .self .bytes) (c .before .args .self .count) (c .before .args .c) (search needs) (c .if1 .left)
+
+pub with-spec : {M : Type 1} → statement M
+with-spec = tie.close (tie.spec array-write-bytes add-t9 returns returns-2)

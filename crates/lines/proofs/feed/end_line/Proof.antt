@@ -1,0 +1,69 @@
+-- A count past the array holds what the whole array does.
+use Prim.Native.Nat.{_≤_}
+use native.Mathlib.Omega.{arith}
+use mathlib.Core.Path.{_≡_, sym, _∙_}
+use lib.ListN.{length, take, length-take}
+use Rattle.lines.specs.Feed.{Held, holding}
+use native.Mathlib.Nat.{min-le-right, min-eq-left}
+use Rattle.lines.proofs.FeedLaws.{serves-newline, take-least}
+use borrow.Author.Needs.{needs}
+use Rattle.lines.proofs.feed.end_line.Statement.{statement}
+use Rattle.lines.proofs.feed.end_line.Tie as tie
+
+long : (c : tie.Start) → length (c .args .part .bytes) ≡ 19
+long c = search needs
+
+least-requires : tie.Need-least-requires
+least-requires c κs = search needs
+
+array-share-prefix-bytes : tie.Need-array-share-prefix-bytes
+array-share-prefix-bytes c =
+    let start = c .before .before .before .before .before in
+    omega (arith, long start, c .before .least .ensures, min-le-right (start .args .part .count) 19)
+
+slice-aggregate-answer-line : tie.Need-slice-aggregate-answer-line
+slice-aggregate-answer-line c =
+    let at-least = c .before .before in
+    let start = at-least .before .before .before .before in
+    let within : at-least .least .result ≤ length (start .args .part .bytes) = omega (arith, long start, at-least .least .ensures, min-le-right (start .args .part .count) 19) in
+    simp length-take (sym (min-eq-left within))
+
+answer-line-requires : tie.Need-answer-line-requires
+answer-line-requires c κs = search needs
+
+write-answer-requires : tie.Need-write-answer-requires
+write-answer-requires c κs = search needs
+
+new-requires : tie.Need-new-requires
+new-requires c κs = search needs
+
+same-length : tie.Need-same-length
+same-length c = search needs
+
+same-length-2 : tie.Need-same-length-2
+same-length-2 c = search needs
+
+returns : tie.Need-returns
+returns c =
+    let at-write-answer = c .before .before .before in
+    let at-answer-line = at-write-answer .before .before .before .before in
+    let at-least = at-answer-line .before .before .before in
+    let start = at-least .before .before .before .before in
+    let part = start .args .part in
+    let h : Held = holding (start .args .tables .now) part in
+    let whole : take (at-least .least .result) (part .bytes) ≡ h .line = rw (at-least .least .ensures, ← long start) (take-least (part .count) (part .bytes)) in
+    serves-newline h _ _ _ _ (rw whole at (at-answer-line .answer-line .ensures .1)) (c .new .ensures) (at-write-answer .write-answer .ensures ∙ rw (at-answer-line .answer-line .ensures .0, whole))
+
+pub end-line-spec : {M : Type 1} → statement M
+end-line-spec =
+    tie.close
+    (tie.spec
+    least-requires
+    array-share-prefix-bytes
+    slice-aggregate-answer-line
+    answer-line-requires
+    write-answer-requires
+    new-requires
+    same-length
+    same-length-2
+    returns)

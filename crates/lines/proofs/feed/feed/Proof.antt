@@ -1,0 +1,58 @@
+-- The part that is passed on is what is taken, and there is room for it.
+use Prim.Native.Nat.{_/_}
+use native.Mathlib.Omega.{arith}
+use mathlib.Core.Path.{sym}
+use lib.ListN.{length}
+use Rattle.lines.specs.Feed.{taken}
+use native.Mathlib.Nat.{min-le-left, mul-div-le}
+use Rattle.lines.proofs.FeedLaws.{take-least, least-long}
+use Rattle.lines.proofs.Whole.{front-counts}
+use borrow.Author.Needs.{needs}
+use Rattle.lines.proofs.feed.feed.Statement.{statement}
+use Rattle.lines.proofs.feed.feed.Tie as tie
+
+least-requires : tie.Need-least-requires
+least-requires c κs = search needs
+
+slice-aggregate-feed-all : tie.Need-slice-aggregate-feed-all
+slice-aggregate-feed-all c =
+    let at-least = c .before .before in
+    let start = at-least .before .before .before .before in
+    let chunk = start .args .chunk .now in
+    let most = length (start .args .out .now) / 13 in
+    rw (at-least .least .ensures) (sym (least-long most chunk))
+
+feed-all-requires : tie.Need-feed-all-requires
+feed-all-requires c κs =
+    let at-least = c .before .before .before in
+    let start = at-least .before .before .before .before in
+    let chunk = start .args .chunk .now in
+    let most = length (start .args .out .now) / 13 in
+    rw (at-least .least .ensures, least-long most chunk) (omega (arith, min-le-left most (length chunk), mul-div-le (length (start .args .out .now)) 13))
+
+same-length : tie.Need-same-length
+same-length c = search needs
+
+same-length-2 : tie.Need-same-length-2
+same-length-2 c = search needs
+
+returns : tie.Need-returns
+unfolding taken
+returns c =
+    let at-feed-all = c .before .before .before .before in
+    let at-least = at-feed-all .before .before .before .before in
+    let start = at-least .before .before .before .before in
+    let chunk = start .args .chunk .now in
+    let most = length (start .args .out .now) / 13 in
+    (rw (← take-least most chunk, ← at-least .least .ensures) (at-feed-all .feed-all .ensures), front-counts (at-feed-all .feed-all .ensures))
+
+pub feed-spec : {M : Type 1} → statement M
+feed-spec =
+    tie.close
+    (tie.spec
+    least-requires
+    slice-aggregate-feed-all
+    feed-all-requires
+    same-length
+    same-length-2
+    returns)

@@ -1,0 +1,32 @@
+-- A newline, or another character.
+use borrow.Author.Tests.{ne-eqb}
+use Rattle.lines.specs.Feed.{holding}
+use Rattle.lines.proofs.FeedLaws.{serves-other}
+use borrow.Author.Needs.{needs}
+use Rattle.lines.proofs.feed.feed_one.Statement.{statement}
+use Rattle.lines.proofs.feed.feed_one.Tie as tie
+
+end-line-requires : tie.Need-end-line-requires
+end-line-requires c κs = search needs
+
+same-length : tie.Need-same-length
+same-length c = search needs
+
+same-length-2 : tie.Need-same-length-2
+same-length-2 c = search needs
+
+returns : tie.Need-returns
+returns c = rw (c .before .before .before .before .before .before .before .if1 .taken) (c .before .before .before .before .end-line .ensures)
+
+with-requires : tie.Need-with-requires
+with-requires c κs = search needs
+
+returns-2 : tie.Need-returns-2
+returns-2 c =
+    let start = c .before .before .before .before in
+    serves-other (holding (start .args .tables .now) (start .args .part)) (start .args .c) (c .with .result) (start .args .out .now) (ne-eqb _ _ (c .before .if1 .left)) (c .with .ensures)
+
+pub feed-one-spec : {M : Type 1} → statement M
+feed-one-spec =
+    tie.close
+    (tie.spec end-line-requires same-length same-length-2 returns with-requires returns-2)

@@ -1,0 +1,52 @@
+-- The part of the newline that is fed is the ending of the line.
+use Prim.Native.Nat.{_≤_}
+use native.Mathlib.Omega.{arith}
+use mathlib.Core.Path.{_≡_, sym}
+use lib.ListN.{length, length-take}
+use native.Mathlib.Nat.{min-eq-left}
+use Rattle.lines.proofs.FeedLaws.{ending-is}
+use borrow.Author.Needs.{needs}
+use Rattle.lines.proofs.feed.finish.Statement.{statement}
+use Rattle.lines.proofs.feed.finish.Tie as tie
+
+long : (c : tie.Start) → length (c .args .part .bytes) ≡ 19
+long c = search needs
+
+least-requires : tie.Need-least-requires
+least-requires c κs = search needs
+
+array-share-prefix-end : tie.Need-array-share-prefix-end
+array-share-prefix-end c = search needs
+
+slice-aggregate-feed : tie.Need-slice-aggregate-feed
+slice-aggregate-feed c =
+    let within : c .before .before .least .result ≤ 1 = search needs in
+    simp length-take (sym (min-eq-left within))
+
+feed-requires : tie.Need-feed-requires
+feed-requires c κs = search needs
+
+same-length : tie.Need-same-length
+same-length c = search needs
+
+same-length-2 : tie.Need-same-length-2
+same-length-2 c = search needs
+
+returns : tie.Need-returns
+returns c =
+    let at-feed = c .before .before .before .before in
+    let at-least = at-feed .before .before .before .before in
+    let start = at-least .before .before .before in
+    (rw (← ending-is (start .args .part .bytes) (start .args .part .count) (omega (arith, long start)), ← at-least .least .ensures) (at-feed .feed .ensures .0), at-feed .feed .ensures .1)
+
+pub finish-spec : {M : Type 1} → statement M
+finish-spec =
+    tie.close
+    (tie.spec
+    least-requires
+    array-share-prefix-end
+    slice-aggregate-feed
+    feed-requires
+    same-length
+    same-length-2
+    returns)

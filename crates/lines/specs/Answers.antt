@@ -1,0 +1,55 @@
+-- The answer to one line, and to all lines of an input, each on the tables that the one before it left.
+use Prim.Native.Nat.{ℕ, _+_, _-_, _*_, _^_}
+use mathlib.Core.List.{List, [], _∷_, _++_}
+use lib.Dec.{eqb}
+use lib.ListN.{length, drop}
+use Rattle.lists.specs.Lists.{if_then_else_}
+use Rattle.cottonsedge.specs.Entries.{answerOf, bytesAfter, currentByte}
+use Rattle.lines.specs.declared.line.Line.{Line}
+use Rattle.lines.specs.declared.line.Line.the-variants.{Request, Wrong}
+use Rattle.lines.specs.Hex.{written}
+use Rattle.lines.specs.Line.{lineOf}
+
+abbrev pub newline : ℕ
+newline = 10
+
+-- a wrong line: refusal 12, value -1, and the process that is current
+abbrev pub answerTo : List ℕ → Line → ℕ
+answerTo tables (Request n a b) = answerOf tables n a b
+answerTo tables Wrong = 12 * 2 ^ 40 + (2 ^ 32 - 1) * 2 ^ 8 + currentByte tables
+
+-- a wrong line changes no table
+abbrev pub tablesAfter : List ℕ → Line → List ℕ
+tablesAfter tables (Request n a b) = bytesAfter tables n a b
+tablesAfter tables Wrong = tables
+
+abbrev pub answerLength : ℕ
+answerLength = 13
+
+-- two digits for the refusal, eight for the value, two for the process
+unfoldable pub textOf : ℕ → List ℕ
+textOf answer = written 12 answer ++ newline ∷ []
+
+-- a text over the front of a buffer
+unfoldable pub over : List ℕ → List ℕ → List ℕ
+over text out = text ++ drop (length text) out
+
+-- a character before the first of some lines
+abbrev pub before : ℕ → List (List ℕ) → List (List ℕ)
+before c [] = (c ∷ []) ∷ []
+before c (line ∷ lines) = (c ∷ line) ∷ lines
+
+-- each line ends at a newline; a last one with at least one character and no newline counts
+unfoldable pub linesOf : List ℕ → List (List ℕ)
+linesOf [] = []
+linesOf (c ∷ cs) =
+    let rest : List (List ℕ) = linesOf cs in
+    if eqb c newline then [] ∷ rest else before c rest
+
+unfoldable pub answersTo : List ℕ → List (List ℕ) → List ℕ
+answersTo tables [] = []
+answersTo tables (line ∷ lines) = textOf (answerTo tables (lineOf line)) ++ answersTo (tablesAfter tables (lineOf line)) lines
+
+-- what the bench writes for a whole input, from tables at its start
+unfoldable pub answers : List ℕ → List ℕ → List ℕ
+answers tables input = answersTo tables (linesOf input)

@@ -1,0 +1,5 @@
+pub mod Answers
+pub mod Chunks
+pub mod Feed
+pub mod Hex
+pub mod Line
