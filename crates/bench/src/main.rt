@@ -1,6 +1,7 @@
 // Reads lines of hexadecimal from standard input, runs each as a call from the boot tables on, and
 // writes an answer to each.
-use cottonsedge::cottonsedge_boot;
+use cottonsedge::boot::cottonsedge_boot;
+use layout::offsets::SIZE;
 use libc::STDIN_FILENO;
 use libc::STDOUT_FILENO;
 use lines::feed::Part;
@@ -63,7 +64,7 @@ fn serve(tables: &mut [u8]) {
 }
 
 fn main() {
-    let mut tables = [0u8; 698];
+    let mut tables = [0u8; SIZE];
     cottonsedge_boot(&mut tables);
     serve(&mut tables);
 }

@@ -1,10 +1,11 @@
 -- The answer to one line, and to all lines of an input, each on the tables that the one before it left.
-use Prim.Native.Nat.{ℕ, _+_, _-_, _*_, _^_}
+use Prim.Native.Nat.{ℕ}
 use mathlib.Core.List.{List, [], _∷_, _++_}
 use lib.Dec.{eqb}
 use lib.ListN.{length, drop}
 use Rattle.lists.specs.Lists.{if_then_else_}
-use Rattle.cottonsedge.specs.Entries.{answerOf, bytesAfter, currentByte}
+use Rattle.rules.specs.declared.Answer.the-variants.{Refused}
+use Rattle.cottonsedge.specs.Entries.{packed, answerOf, bytesAfter, currentByte}
 use Rattle.lines.specs.declared.line.Line.{Line}
 use Rattle.lines.specs.declared.line.Line.the-variants.{Request, Wrong}
 use Rattle.lines.specs.Hex.{written}
@@ -16,7 +17,7 @@ newline = 10
 -- a wrong line: refusal 12, value -1, and the process that is current
 abbrev pub answerTo : List ℕ → Line → ℕ
 answerTo tables (Request n a b) = answerOf tables n a b
-answerTo tables Wrong = 12 * 2 ^ 40 + (2 ^ 32 - 1) * 2 ^ 8 + currentByte tables
+answerTo tables Wrong = packed (Refused 12) (currentByte tables)
 
 -- a wrong line changes no table
 abbrev pub tablesAfter : List ℕ → Line → List ℕ

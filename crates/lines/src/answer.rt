@@ -1,8 +1,10 @@
 // A line answered, and the answer written.
 use crate::line::Line;
 use crate::line::read_line;
-use cottonsedge::cottonsedge_call;
-use cottonsedge::current;
+use cottonsedge::answer::pack;
+use cottonsedge::call::cottonsedge_call;
+use cottonsedge::check::current;
+use rules::Answer;
 ghost use mathlib.Core.Path.{_≡_};
 ghost use Prim.Native.Nat.{_≤_, _<_};
 ghost use lib.ListN.{length};
@@ -15,16 +17,13 @@ const DIGITS: usize = 12;
 // The bytes of an answer: its digits and a newline.
 pub const ANSWER: usize = DIGITS + 1;
 
-// Refusal 12 and value -1; the process is still to be added.
-const WRONG_LINE: u64 = 0x0cff_ffff_ff00;
-
 // The line's call made; a wrong line is answered and changes no table.
 pub fn answer_line(tables: &mut [u8], line: &[u8]) -> u64
     ensures { λ r. ⌜ (r ≡ answerTo (now (tables .entry)) (lineOf (now (line .entry)))) × (now (tables .exit) ≡ tablesAfter (now (tables .entry)) (lineOf (now (line .entry)))) ⌝ }
 {
     match read_line(line) {
         Line::Request(n, a, b) => cottonsedge_call(tables, n, a, b),
-        Line::Wrong => WRONG_LINE + (current(tables) as u64),
+        Line::Wrong => pack(Answer::Refused(12), current(tables) as u16),
     }
 }
 
