@@ -16,7 +16,6 @@ use mir.ValLaws.{ofZ-fits, toZ-ofZ}
 use borrow.Author.Tests.{eq-eqb, ne-eqb}
 use Rattle.layout.specs.Bytes.{fromBytes, toBytes, wellFormed}
 use Rattle.layout.specs.Offsets.{size}
-use Rattle.layout.specs.Stands.{CountsFit}
 use Rattle.promises.specs.Demand.{Demand3}
 use Rattle.promises.specs.Record.{Request, after, recordOf}
 use Rattle.rules.specs.Answers.{valueOf}
@@ -29,10 +28,11 @@ use Rattle.tables.specs.Limits.{processLimit}
 use Rattle.tables.specs.Readers.{currentOf}
 use Rattle.tables.specs.Sound.{Sound}
 use Rattle.tables.specs.declared.Tables.{Tables}
+use Rattle.tables.specs.Counts.{CountsFit}
 use Rattle.layout.proofs.Image.{formed-made, tables-back}
 use Rattle.promises.proofs.Main.{demand3}
 use Rattle.promises.proofs.Runs.{AllFit, boot-run-fits, boot-run-sound}
-use Rattle.rules.proofs.Fits.{Fits, fits-numbered}
+use Rattle.rules.proofs.Fits.{fits-numbered}
 use Rattle.rules.proofs.Kept.{sound-numbered}
 use Rattle.rules.proofs.Numbers.{enter-sound}
 use Rattle.rules.proofs.Refusals.{Ranged, numbered-ranged}
@@ -62,15 +62,12 @@ told (Refused n) h f = h
 
 -- One call on the bytes of sound tables whose counts fit
 
-module _ {t : Tables} (S : Sound t) (F : Fits t) where
-  fits : CountsFit t
-  fits s h = F .counts s
-
+module _ {t : Tables} (S : Sound t) (F : CountsFit t) where
   back : fromBytes (toBytes t) ≡ t
-  back = tables-back t (sound-held S fits)
+  back = tables-back t (sound-held S F)
 
   formed : wellFormed (toBytes t) ≡ true
-  formed = formed-made t (sound-held S fits)
+  formed = formed-made t (sound-held S F)
 
   call-bytes : (n : ℕ) (a b : ℤ) → bytesAfter (toBytes t) n a b ≡ toBytes (numbered t n a b .tables)
   unfolding bytesAfter
@@ -87,7 +84,7 @@ module _ {t : Tables} (S : Sound t) (F : Fits t) where
 
   call-caller : currentByte (toBytes t) ≡ currentOf t
   unfolding currentByte
-  call-caller = rw (sound-good S fits, back)
+  call-caller = rw (sound-good S F, back)
 
 -- Any sequence, from the boot tables
 
@@ -118,4 +115,4 @@ demand3-of-bytes bs l requests k =
 -- and they are sound
 pub left-good : (bs : List ℕ) → length bs ≡ size → (requests : List Request) → AllFit requests → good (bytesLeft (booted bs) requests) ≡ true
 unfolding booted
-left-good bs l requests k = rw (eq-eqb (length bs) size l, left-bytes requests k) (sound-good (boot-run-sound requests) (fits (boot-run-sound requests) (boot-run-fits requests k)))
+left-good bs l requests k = rw (eq-eqb (length bs) size l, left-bytes requests k) (sound-good (boot-run-sound requests) (boot-run-fits requests k))

@@ -9,7 +9,7 @@ use mathlib.Core.Path.{_∙_, _≡_, refl, subst, sym}
 use lib.ListN.{getD, length}
 use borrow.Author.Tests.{le-ltb}
 use Rattle.layout.specs.Bytes.{fromBytes, toBytes, wellFormed}
-use Rattle.layout.specs.Stands.{CountsFit, Held, Named}
+use Rattle.layout.specs.Stands.{Held, Named}
 use Rattle.lists.specs.Lists.{times}
 use Rattle.soundness.specs.Good.{good}
 use Rattle.tables.specs.Limits.{processLimit}
@@ -21,6 +21,7 @@ use Rattle.tables.specs.declared.State.the-variants.{Current, Free, Ready, Susp
 use Rattle.tables.specs.declared.Tables.{Tables}
 use Rattle.soundness.specs.Tallies.{sumOf}
 use Rattle.tables.specs.States.{isCurrent}
+use Rattle.tables.specs.Counts.{CountsFit}
 use Rattle.layout.proofs.Image.{formed-made, tables-back}
 use Rattle.lists.proofs.Bools.{and-in, below?, both}
 use Rattle.lists.proofs.Rows.{times-at}
@@ -35,7 +36,7 @@ sound-held {t} S fits =
       entries = S .laid .entries;
       places = S .laid .places;
       waits = λ p h. named p (stateOf t p) refl;
-      counts = fits;
+      fits = fits;
       row = λ i h. let l : length (t .order) ≡ processLimit = S .laid .places in placed (getD (t .order) i 0) (times-at (t .order) i (omega arith));
     }
   where

@@ -9,7 +9,7 @@ use lib.ListN.{length}
 use borrow.Author.Tests.{le-ltb}
 use Rattle.layout.specs.Bytes.{fromBytes, stateByte, toBytes}
 use Rattle.layout.specs.Offsets.{orderAt, statesAt}
-use Rattle.layout.specs.Stands.{CountsFit, Does, Held, Named}
+use Rattle.layout.specs.Stands.{Does, Held, Named}
 use Rattle.promises.specs.Demand.{running}
 use Rattle.promises.specs.Record.{after}
 use Rattle.rules.specs.Answers.{refused}
@@ -25,6 +25,7 @@ use Rattle.tables.specs.Test.{soundNow}
 use Rattle.tables.specs.declared.State.{State}
 use Rattle.tables.specs.declared.State.the-variants.{Current, Free, Ready, Suspended, Waiting}
 use Rattle.tables.specs.declared.Tables.{Tables}
+use Rattle.tables.specs.Counts.{CountsFit}
 use Rattle.layout.proofs.Image.{byte-at, formed-place, formed-state, place-byte, stands-is, stands-made, state-byte, tables-back}
 use Rattle.lists.proofs.Bools.{below?, split}
 use Rattle.rules.proofs.Kept.{sound-numbered}
@@ -52,7 +53,7 @@ module _ (t : Tables) (n : ℕ) (a b : ℤ) (slots : length (t .processes) ≡ p
           entries = entries;
           places = places;
           waits = λ p h. state-named (stateOf t p) (subst (λ (k : ℕ). k < 4 + semaphoreLimit) (byte-at t (statesAt + p) (omega arith) ∙ state-byte t p h) (formed-state (toBytes t) wf p h));
-          counts = fits;
+          fits = fits;
           row = λ i h. subst (λ (k : ℕ). k < processLimit) (byte-at t (orderAt + i) (omega arith) ∙ place-byte t i h) (formed-place (toBytes t) wf i h);
         }
 

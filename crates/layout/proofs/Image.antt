@@ -6,10 +6,10 @@ use mathlib.Core.Bool.{Bool, _&&_, false, true}
 use mathlib.Core.List.{List}
 use mathlib.Core.Path.{_∙_, _≡_, ap, refl, subst, sym}
 use lib.Dec.{eqb}
-use lib.ListN.{getD, length}
+use lib.ListN.{List·getD-eq-default, getD, length}
 use lib.Seq.{ext-getD}
 use mir.Syntax.{w32}
-use mir.Val.{ofZ, toZ}
+use mir.Val.{SFits, ofZ, toZ}
 use mir.ValLaws.{ofZ-toZ, toZ-fits}
 use borrow.Author.Tests.{eq-eqb, eqb-true, le-ltb, lt-ltb, ltb-true}
 use Rattle.lists.specs.Numbers.{all, listed}
@@ -240,6 +240,10 @@ module _ (a b c d : ℕ) (ha : a < 256) (hb : b < 256) (hc : c < 256) (hd : d < 
         sym (ap (λ (k : ℕ). k % 256) q₃ ∙ mod-eq-of-lt hd),
       )
 
+-- a count past the table reads as 0
+pub past-fits : (t : Tables) → length (t .semaphores) ≡ semaphoreLimit → (s : ℕ) → semaphoreLimit ≤ s → SFits w32 (countOf t s)
+past-fits t l s h = subst (λ (x : Semaphore). SFits w32 (x .count)) (sym (List·getD-eq-default (t .semaphores) freeSemaphore {n = s} (omega arith))) record { sfits = omega arith }
+
 -- Well formed bytes are the tables that they say
 
 module _ (bs : List ℕ) (byte : (i : ℕ) → getD bs i 0 < 256) where
@@ -265,7 +269,7 @@ module _ (bs : List ℕ) (byte : (i : ℕ) → getD bs i 0 < 256) where
           entries = semaphores-long bs;
           places = order-long bs;
           waits = λ p h. rw (state p h) (state-back (getD bs (statesAt + p) 0) (formed-state bs wf p h) .1);
-          counts = λ s h. rw (count s h) (toZ-fits w32 (wordAt bs s) (record { fits = word-small s }));
+          fits = λ s. below? s semaphoreLimit (λ h. rw (count s h) (toZ-fits w32 (wordAt bs s) (record { fits = word-small s }))) (past-fits (fromBytes bs) (semaphores-long bs) s);
           row = λ i h. rw (place-said bs i h) (formed-place bs wf i h);
         };
         long = formed-long bs wf;

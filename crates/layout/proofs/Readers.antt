@@ -71,7 +71,7 @@ module _ (t : Tables) (bs : List ℕ) (st : Stands t bs) where
   unfolding Words
   count-read s h =
       let w : Word (countsAt + s * 4) (ofZ w32 (countOf t s)) bs = st .counts s h in
-      let f : SFits w32 (countOf t s) = st .held .counts s h in
+      let f : SFits w32 (countOf t s) = st .held .fits s in
       let is : wordAt bs s ≡ ofZ w32 (countOf t s) = rw (w .b0, w .b1, w .b2, w .b3) (word-there (ofZ w32 (countOf t s)) (ofZ-fits w32 (countOf t s) f .fits)) in
       ap (toZ w32) is ∙ toZ-ofZ w32 (countOf t s) f
 

@@ -31,7 +31,7 @@ held-process t h p x hp named =
       entries = h .entries;
       places = h .places;
       waits = λ k hk. entry (t .processes) p x freeSlot (omega (arith, h .slots)) (λ (z : Process). Named (z .state)) named k (h .waits k hk);
-      counts = h .counts;
+      fits = h .fits;
       row = h .row;
     }
 
@@ -42,7 +42,7 @@ held-semaphore t h s x hs fits =
       entries = length-set (t .semaphores) s x ∙ h .entries;
       places = h .places;
       waits = h .waits;
-      counts = λ k hk. entry (t .semaphores) s x freeSemaphore (omega (arith, h .entries)) (λ (z : Semaphore). SFits w32 (z .count)) fits k (h .counts k hk);
+      fits = λ k. entry (t .semaphores) s x freeSemaphore (omega (arith, h .entries)) (λ (z : Semaphore). SFits w32 (z .count)) fits k (h .fits k);
       row = h .row;
     }
 
@@ -100,7 +100,7 @@ module _ (t : Tables) (bs : List ℕ) (st : Stands t bs) where
       let j : ℕ = usedAt + s in
       let v : ℕ = usedByte u in
       record {
-        held = held-semaphore t (st .held) s x h (st .held .counts s h);
+        held = held-semaphore t (st .held) s x h (st .held .fits s);
         long = length-set bs j v ∙ l;
         states = aside bs j v statesAt processLimit _ (λ i hi e. omega arith) (st .states);
         priorities = aside bs j v prioritiesAt processLimit _ (λ i hi e. omega arith) (st .priorities);
@@ -150,7 +150,7 @@ module _ (t : Tables) (bs : List ℕ) (st : Stands t bs) where
           entries = st .held .entries;
           places = length-set (t .order) i q ∙ st .held .places;
           waits = st .held .waits;
-          counts = st .held .counts;
+          fits = st .held .fits;
           row = λ k hk. entry (t .order) i q 0 ho (λ (z : ℕ). z < processLimit) hq k (st .held .row k hk);
         };
         long = length-set bs j q ∙ l;
@@ -218,7 +218,7 @@ module _ (bs : List ℕ) where
       let l = st .long in
       let h = st .held in
       put-cursor t bs st (withNextSemaphore t s) nextSemaphoreAt s (omega arith)
-      (record { slots = h .slots; entries = h .entries; places = h .places; waits = h .waits; counts = h .counts; row = h .row }) refl refl refl
+      (record { slots = h .slots; entries = h .entries; places = h .places; waits = h .waits; fits = h .fits; row = h .row }) refl refl refl
       (getD-set-same bs nextSemaphoreAt s 0 (omega arith)) (aside-one bs nextSemaphoreAt s nextProcessAt _ (λ e. omega arith) (st .nextProcess))
 
   pub next-process-turns : (p : ℕ) → Turns (λ t. withNextProcess t p) bs (set bs nextProcessAt p)
@@ -227,7 +227,7 @@ module _ (bs : List ℕ) where
       let l = st .long in
       let h = st .held in
       put-cursor t bs st (withNextProcess t p) nextProcessAt p (omega arith)
-      (record { slots = h .slots; entries = h .entries; places = h .places; waits = h .waits; counts = h .counts; row = h .row }) refl refl refl
+      (record { slots = h .slots; entries = h .entries; places = h .places; waits = h .waits; fits = h .fits; row = h .row }) refl refl refl
       (aside-one bs nextProcessAt p nextSemaphoreAt _ (λ e. omega arith) (st .nextSemaphore)) (getD-set-same bs nextProcessAt p 0 (omega arith))
 
 -- a semaphore written whole: its used flag, then its count

@@ -4,12 +4,13 @@ use mathlib.Core.Path.{_≡_}
 use mathlib.Core.List.{List}
 use lib.ListN.{getD, length}
 use mir.Syntax.{w32}
-use mir.Val.{ofZ, SFits}
+use mir.Val.{ofZ}
 use Rattle.tables.specs.declared.State.{State}
 use Rattle.tables.specs.declared.State.the-variants.{Free, Current, Ready, Suspended, Waiting}
 use Rattle.tables.specs.declared.Tables.{Tables}
 use Rattle.tables.specs.Limits.{processLimit, semaphoreLimit}
 use Rattle.tables.specs.Readers.{stateOf, priorityOf, isUsed, countOf}
+use Rattle.tables.specs.Counts.{CountsFit}
 use Rattle.tables.specs.Sound.{Sound}
 use Rattle.layout.specs.Offsets.{statesAt, prioritiesAt, usedAt, countsAt, orderAt, nextSemaphoreAt, nextProcessAt, size}
 use Rattle.layout.specs.Bytes.{stateByte, usedByte}
@@ -37,17 +38,13 @@ Named Ready = Unit
 Named Suspended = Unit
 Named (Waiting s) = s < semaphoreLimit
 
--- every count is a signed number of 32 bits
-abbrev pub CountsFit : Tables → Type 0
-CountsFit t = (s : ℕ) → s < semaphoreLimit → SFits w32 (countOf t s)
-
 -- what the bytes can hold
 pub record Held (t : Tables) : Type 0 where
   pub slots : length (t .processes) ≡ processLimit
   pub entries : length (t .semaphores) ≡ semaphoreLimit
   pub places : length (t .order) ≡ processLimit
   pub waits : (p : ℕ) → p < processLimit → Named (stateOf t p)
-  pub counts : CountsFit t
+  pub fits : CountsFit t
   pub row : (i : ℕ) → i < processLimit → getD (t .order) i 0 < processLimit
 
 -- the lent bytes are these tables

@@ -10,9 +10,9 @@ use crate::word::unsigned;
 use tables::Tables;
 ghost use mathlib.Core.Path.{_≡_};
 ghost use lib.ListN.{length};
+ghost use Rattle.tables.specs.Counts.{CountsFit};
 ghost use Rattle.layout.specs.Offsets.{statesAt, prioritiesAt, usedAt, countsAt, orderAt, nextSemaphoreAt, size};
 ghost use Rattle.layout.specs.Bytes.{toBytes};
-ghost use Rattle.layout.specs.Stands.{CountsFit};
 ghost use Rattle.layout.specs.Begun.{Begun};
 
 fn put_states(bytes: &mut [u8], t: Tables)

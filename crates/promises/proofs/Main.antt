@@ -1,30 +1,31 @@
 -- Demand 3 holds after any list of requests. Assumes nothing.
-use Prim.Native.Nat.{ℕ, suc, _≤_}
+use Prim.Native.Nat.{_≤_, suc, ℕ}
 use native.Mathlib.Omega.{arith}
-use mathlib.Core.Bool.{Bool, true, false, true≢false}
+use mathlib.Core.Bool.{Bool, false, true, true≢false}
 use mathlib.Core.List.{List, [], _∷_}
 use mathlib.Core.Logic.{_≢_}
 use mathlib.Core.Option.{Option, none, some}
-use mathlib.Core.Path.{_≡_, refl, sym, ap, subst, _∙_}
+use mathlib.Core.Path.{_∙_, _≡_, ap, refl, subst, sym}
 use lib.IntN.{ℤ}
 use lib.ListN.{length}
 use borrow.Author.Tests.{eq-eqb, ne-eqb}
-use Rattle.lists.specs.Lists.{if_then_else_, times}
+use Rattle.lists.specs.Lists.{if_then_else_, place, times}
 use Rattle.tables.specs.declared.State.{State}
-use Rattle.tables.specs.declared.State.the-variants.{Free, Current, Ready, Suspended, Waiting}
+use Rattle.tables.specs.declared.State.the-variants.{Current, Free, Ready, Suspended, Waiting}
 use Rattle.tables.specs.declared.Semaphore.{Semaphore}
 use Rattle.tables.specs.declared.Tables.{Tables}
-use Rattle.tables.specs.States.{isFree, isCurrent, isReady, isSuspended, waitsOn}
-use Rattle.tables.specs.Readers.{stateOf, countOf, queue}
+use Rattle.tables.specs.States.{isCurrent, isFree, isReady, isSuspended, waitsOn}
+use Rattle.tables.specs.Readers.{countOf, queue, stateOf}
 use Rattle.tables.specs.Boot.{boot}
 use Rattle.tables.specs.Sound.{Sound}
+use Rattle.rules.specs.Telling.{inUse, notInUse}
 use Rattle.tables.proofs.States.{is-free}
 use Rattle.tables.proofs.LineLaws.{in-line-live}
-use Rattle.tables.proofs.Sentences.{few-wait}
+use Rattle.tables.proofs.Sentences.{few-wait, sentences}
 use Rattle.tables.proofs.BootLaws.{entry-boot, sound-boot}
 use Rattle.rules.proofs.Kept.{sound-numbered}
-use Rattle.promises.specs.Record.{Request, Entry, Account, stillBlocked, account, after, recordOf}
-use Rattle.promises.specs.Demand.{Place, running, ready, suspended, queueOf, there, OnePlace, Demand3, Start}
+use Rattle.promises.specs.Record.{Account, Entry, Request, account, after, recordOf, stillBlocked}
+use Rattle.promises.specs.Demand.{Demand3, OnePlace, Place, Start, queueOf, ready, running, suspended, there}
 use Rattle.promises.proofs.Accounts.{Agrees}
 use Rattle.promises.proofs.Demand3.{Agree, numbered-agree}
 
@@ -133,7 +134,7 @@ demanded {t} {es} i =
       places = λ p h. placed (i .sound) p (stateOf t p) refl h;
       free = nowhere (i .sound);
       inUse = λ s h. let w = used-account (countOf t s) (queue t s) (account s es) (rw h at (i .agrees s)) in record { says = w .0; known = w .1 .0; count = w .1 .1 .0; waiters = w .1 .1 .1 };
-      notInUse = λ s h. unused-account (countOf t s) (queue t s) (account s es) (rw h at (i .agrees s));
+      notInUse = λ s h. (unused-account (countOf t s) (queue t s) (account s es) (rw h at (i .agrees s)), sentences (i .sound) .noQueue s h);
       waiters = i .sound .queued .counted;
       different = different (i .sound);
       floor = λ s n e. let k : length (queue t s) ≡ suc n = rw e at (i .sound .queued .counted s) in omega (arith, few-wait (i .sound) s);

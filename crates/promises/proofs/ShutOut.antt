@@ -74,12 +74,12 @@ count-1 = refl
 
 pub makes-up-count : (k : Kernel) → MakesUpCount k → Meets k → ⊥
 makes-up-count k (v, r) h =
-    let a : Done (v (pos 0)) ≡ Done (pos 0) = told (pos 0) ∙ count-0 in
-    let b : Done (v (pos 0)) ≡ Done (pos 1) = told (pos 1) ∙ count-1 in
+    let a : v (pos 0) ≡ Done (pos 0) = told (pos 0) ∙ count-0 in
+    let b : v (pos 0) ≡ Done (pos 1) = told (pos 1) ∙ count-1 in
     let z : _≡_ {A = ℕ} 0 1 = cc in
     omega arith
   where
-    told : (c : ℤ) → Done (v (pos 0)) ≡ numbered (with-one c) 11 (pos 0) (pos 0) .answer
+    told : (c : ℤ) → v (pos 0) ≡ numbered (with-one c) 11 (pos 0) (pos 0) .answer
     told c = sym (r (with-one c) (pos 0)) ∙ ap (λ (o : Outcome). o .answer) (h (with-one c) (sound-numbered sound-boot 3 c (pos 0)) 11 (pos 0) (pos 0))
 
 -- one that runs the first call of a session and only answers for the rest: the second of two makes moves the cursor on

@@ -1,7 +1,7 @@
 -- Demand 3: what holds of the tables and of the record of the calls that made them.
 use Prim.Native.Nat.{ℕ, suc, _≤_, _<_}
 use mathlib.Core.Bool.{true, false}
-use mathlib.Core.List.{List}
+use mathlib.Core.List.{List, []}
 use mathlib.Core.Logic.{_≢_}
 use mathlib.Core.Option.{none, some}
 use mathlib.Core.Path.{_≡_}
@@ -47,8 +47,8 @@ pub record Demand3 (t : Tables) (entries : List Entry) : Type 0 where
   pub free : (p : ℕ) → isFree (stateOf t p) ≡ true → (x : Place) → times p (there t x) ≡ 0
   -- a semaphore in use has the count and the queue that the record says
   pub inUse : (s : ℕ) → isUsed t s ≡ true → Accounted t entries s
-  -- the record says nothing of one that isn't
-  pub notInUse : (s : ℕ) → isUsed t s ≡ false → account s entries ≡ none
+  -- the record says nothing of one that isn't, and nobody waits on it
+  pub notInUse : (s : ℕ) → isUsed t s ≡ false → (account s entries ≡ none) × (queue t s ≡ [])
   -- a count of -n means n waiters, and one of at least 0 means none
   pub waiters : (s : ℕ) → Counted (countOf t s) (queue t s)
   -- all of them different

@@ -6,6 +6,7 @@ use lib.IntN.{ℤ, pos}
 use Rattle.tables.specs.declared.Tables.{Tables}
 use Rattle.tables.specs.Boot.{boot}
 use Rattle.tables.specs.Sound.{Sound}
+use Rattle.rules.specs.declared.Answer.{Answer}
 use Rattle.rules.specs.declared.Answer.the-variants.{Done, Refused}
 use Rattle.rules.specs.declared.Outcome.{Outcome}
 use Rattle.rules.specs.Enter.{numbered}
@@ -32,7 +33,7 @@ ChangesNothing k = (t : Tables) (n : ℕ) (a b : ℤ) → k t n a b .tables ≡ 
 
 -- 0b is answered without a look at the tables
 abbrev pub MakesUpCount : Kernel → Type 0
-MakesUpCount k = (v : ℤ → ℤ) × ((t : Tables) (a : ℤ) → k t 11 a (pos 0) .answer ≡ Done (v a))
+MakesUpCount k = (r : ℤ → Answer) × ((t : Tables) (a : ℤ) → k t 11 a (pos 0) .answer ≡ r a)
 
 -- A kernel with a memory: it knows the requests that were made before, the latest first
 

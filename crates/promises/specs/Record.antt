@@ -5,6 +5,8 @@ use mathlib.Core.List.{List, [], _∷_, _++_}
 use mathlib.Core.Option.{Option, none, some}
 use lib.Dec.{eqb, ltb}
 use lib.IntN.{ℤ, sucℤ, predℤ, natAbs}
+use mir.Syntax.{w32}
+use mir.Val.{SFits}
 use Rattle.lists.specs.Lists.{if_then_else_, times}
 use Rattle.tables.specs.declared.Tables.{Tables}
 use Rattle.tables.specs.Readers.{currentOf}
@@ -19,6 +21,15 @@ pub record Request : Type 0 where
   pub number : ℕ
   pub a : ℤ
   pub b : ℤ
+
+-- both arguments are signed numbers of 32 bits
+pub record ArgumentsFit (q : Request) : Type 0 where
+  pub a : SFits w32 (q .a)
+  pub b : SFits w32 (q .b)
+
+abbrev pub AllFit : List Request → Type 0
+AllFit [] = Unit
+AllFit (q ∷ qs) = ArgumentsFit q × AllFit qs
 
 -- a call that was made, with its caller and its answer
 pub record Entry : Type 0 where

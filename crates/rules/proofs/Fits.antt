@@ -1,52 +1,49 @@
 -- Every call keeps the counts within 32 bits, and its value is within them too. Assumes nothing.
-use Prim.Native.Nat.{ℕ, zero, suc, _<_}
+use Prim.Native.Nat.{_<_, suc, zero, ℕ}
 use native.Mathlib.Omega.{arith}
-use mathlib.Core.Bool.{Bool, true, false, not, _||_}
+use mathlib.Core.Bool.{Bool, _||_, false, not, true}
 use mathlib.Core.List.{List, [], _∷_}
-use mathlib.Core.Path.{_≡_, refl, ap}
+use mathlib.Core.Path.{_≡_, ap, refl}
 use lib.Dec.{eqb, ltb}
-use lib.IntN.{ℤ, pos, negsuc, sucℤ, predℤ, natAbs}
+use lib.IntN.{natAbs, negsuc, pos, predℤ, sucℤ, ℤ}
 use lib.ListN.{length}
 use lib.Signed.{leZ}
 use mir.Syntax.{w32}
 use mir.Val.{SFits}
 use borrow.Author.Tests.{leb-false}
-use Rattle.lists.specs.Lists.{if_then_else_, times, first}
-use Rattle.lists.proofs.Bools.{split, either}
-use Rattle.lists.proofs.ListLaws.{times-empty}
-use Rattle.lists.proofs.RoundLaws.{found}
+use Rattle.lists.specs.Lists.{first, if_then_else_, times}
 use Rattle.tables.specs.declared.State.{State}
-use Rattle.tables.specs.declared.State.the-variants.{Free, Current, Ready, Suspended, Waiting}
+use Rattle.tables.specs.declared.State.the-variants.{Current, Free, Ready, Suspended, Waiting}
 use Rattle.tables.specs.declared.Semaphore.{Semaphore}
 use Rattle.tables.specs.declared.Tables.{Tables}
 use Rattle.tables.specs.Limits.{processLimit, semaphoreLimit}
 use Rattle.tables.specs.States.{isFree}
-use Rattle.tables.specs.Readers.{stateOf, priorityOf, isUsed, countOf, queue, currentOf}
+use Rattle.tables.specs.Readers.{countOf, currentOf, isUsed, priorityOf, queue, stateOf}
 use Rattle.tables.specs.Setters.{withCount}
 use Rattle.tables.specs.Boot.{boot}
 use Rattle.tables.specs.Sound.{Counted, Sound}
+use Rattle.tables.specs.Counts.{CountsFit}
+use Rattle.lists.proofs.Bools.{either, split}
+use Rattle.lists.proofs.ListLaws.{times-empty}
+use Rattle.lists.proofs.RoundLaws.{found}
 use Rattle.tables.proofs.States.{is-free}
-use Rattle.tables.proofs.Sentences.{sentences, few-wait}
+use Rattle.tables.proofs.Sentences.{few-wait, sentences}
 use Rattle.tables.proofs.BootLaws.{entry-boot}
 use Rattle.rules.specs.Schedule.{makeReady, makeWait}
-use Rattle.rules.specs.Answers.{valueOf, _when_}
-use Rattle.rules.specs.Calls.{Call, Wait, Signal, MakeSemaphore, Delete, Reset, MakeProcess, Resume, Suspend, Kill, Yield, Count, below0, largest, freeSemaphores, freeSlots, plain, switching, checks, deed, finish, step}
-use Rattle.rules.specs.Enter.{callOf, spare, numbered}
+use Rattle.rules.specs.Answers.{_when_, valueOf}
+use Rattle.rules.specs.Calls.{Call, Count, Delete, Kill, MakeProcess, MakeSemaphore, Reset, Resume, Signal, Suspend, Wait, Yield, below0, checks, deed, finish, freeSemaphores, freeSlots, largest, plain, step, switching}
+use Rattle.rules.specs.Enter.{callOf, numbered, spare}
 use Rattle.rules.specs.Telling.{Accepted}
 use Rattle.rules.proofs.Resched.{Settled}
 use Rattle.rules.proofs.Effects.{Effect, settled-shows}
 use Rattle.rules.proofs.Refusals.{unless-cases}
-use Rattle.rules.proofs.Does.{KillDoes, Does, does}
-
--- every count is a signed number of 32 bits
-pub record Fits (t : Tables) : Type 0 where
-  pub counts : (s : ℕ) → SFits w32 (countOf t s)
+use Rattle.rules.proofs.Does.{Does, KillDoes, does}
 
 small : (n : ℕ) → n < 2147483648 → SFits w32 (pos n)
 small n h = record { sfits = h }
 
-pub fits-boot : Fits boot
-fits-boot = record { counts = λ s. rw (ap (λ (x : Semaphore). x .count) (entry-boot s)) (small 0 (omega arith)) }
+pub fits-boot : CountsFit boot
+fits-boot = (λ s. rw (ap (λ (x : Semaphore). x .count) (entry-boot s)) (small 0 (omega arith)))
 
 -- one less, where fewer wait than there are processes
 lowered-fits : (c : ℤ) (q : List ℕ) → SFits w32 c → Counted c q → length q < processLimit → SFits w32 (predℤ c)
@@ -78,30 +75,30 @@ setsCount (Kill a) = pos 0
 setsCount Yield = pos 0
 setsCount (Count a) = pos 0
 
-module _ {t : Tables} (S : Sound t) (F : Fits t) where
-  by-effect : {t′ : Tables} {s : ℕ} {u : Bool} {c : ℤ} {q : List ℕ} → Effect t t′ s u c q → SFits w32 c → Fits t′
-  by-effect {t′} {s} E h = record { counts = λ r. either r s (λ e. rw (e, E .here .count) h) (λ e. rw (E .elsewhere r e .count) (F .counts r)) }
+module _ {t : Tables} (S : Sound t) (F : CountsFit t) where
+  by-effect : {t′ : Tables} {s : ℕ} {u : Bool} {c : ℤ} {q : List ℕ} → Effect t t′ s u c q → SFits w32 c → CountsFit t′
+  by-effect {t′} {s} E h = λ r. either r s (λ e. rw (e, E .here .count) h) (λ e. rw (E .elsewhere r e .count) (F r))
 
-  by-settled : {t′ : Tables} → Settled t t′ → Fits t′
-  by-settled g = record { counts = λ r. rw (settled-shows g r .count) (F .counts r) }
+  by-settled : {t′ : Tables} → Settled t t′ → CountsFit t′
+  by-settled g = λ r. rw (settled-shows g r .count) (F r)
 
-  kill-fits : {t′ : Tables} (p : ℕ) (st : State) → stateOf t p ≡ st → KillDoes t p st t′ → Fits t′
-  kill-fits p Free e g = by-settled g
-  kill-fits p Current e g = by-settled g
-  kill-fits p Ready e g = by-settled g
-  kill-fits p Suspended e g = by-settled g
-  kill-fits p (Waiting s) e E = by-effect E (raised-fits (countOf t s) (F .counts s) (waited-on (countOf t s) (queue t s) p (S .queued .counted s) (sentences S .queuedOnce p s e)))
+  kill-fits : (t′ : Tables) (p : ℕ) (st : State) → stateOf t p ≡ st → KillDoes t p st t′ → CountsFit t′
+  kill-fits t′ p Free e g = by-settled g
+  kill-fits t′ p Current e g = by-settled g
+  kill-fits t′ p Ready e g = by-settled g
+  kill-fits t′ p Suspended e g = by-settled g
+  kill-fits t′ p (Waiting s) e E = by-effect E (raised-fits (countOf t s) (F s) (waited-on (countOf t s) (queue t s) p (S .queued .counted s) (sentences S .queuedOnce p s e)))
 
-  does-fits : (c : Call) (t′ : Tables) → SFits w32 (setsCount c) → Accepted t c → Does t c t′ → Fits t′
-  does-fits (Wait a) t′ f k E = by-effect E (lowered-fits (countOf t (natAbs a)) (queue t (natAbs a)) (F .counts (natAbs a)) (S .queued .counted (natAbs a)) (few-wait S (natAbs a)))
-  does-fits (Signal a) t′ f k E = by-effect E (raised-fits (countOf t (natAbs a)) (F .counts (natAbs a)) (k .1 .1 .0))
+  does-fits : (c : Call) (t′ : Tables) → SFits w32 (setsCount c) → Accepted t c → Does t c t′ → CountsFit t′
+  does-fits (Wait a) t′ f k E = by-effect E (lowered-fits (countOf t (natAbs a)) (queue t (natAbs a)) (F (natAbs a)) (S .queued .counted (natAbs a)) (few-wait S (natAbs a)))
+  does-fits (Signal a) t′ f k E = by-effect E (raised-fits (countOf t (natAbs a)) (F (natAbs a)) (k .1 .1 .0))
   does-fits (MakeSemaphore a) t′ f k E = by-effect E f
   does-fits (Delete a) t′ f k E = by-effect E f
   does-fits (Reset a b) t′ f k E = by-effect E f
   does-fits (MakeProcess a) t′ f k g = by-settled g
   does-fits (Resume a) t′ f k g = by-settled g
   does-fits (Suspend a) t′ f k g = by-settled g
-  does-fits (Kill a) t′ f k g = kill-fits (natAbs a) (stateOf t (natAbs a)) refl g
+  does-fits (Kill a) t′ f k g = kill-fits t′ (natAbs a) (stateOf t (natAbs a)) refl g
   does-fits Yield t′ f k g = by-settled g
   does-fits (Count a) t′ f k g = by-settled g
 
@@ -133,15 +130,15 @@ module _ {t : Tables} (S : Sound t) (F : Fits t) where
   value-fits (Suspend a) k = priority-fits (natAbs a)
   value-fits (Kill a) k = small 1 (omega arith)
   value-fits Yield k = small 1 (omega arith)
-  value-fits (Count a) k = F .counts (natAbs a)
+  value-fits (Count a) k = F (natAbs a)
 
-  refused-fit : (n : ℕ) → Fits t × SFits w32 (negsuc 0)
+  refused-fit : (n : ℕ) → CountsFit t × SFits w32 (negsuc 0)
   refused-fit n = (F, record { sfits = omega arith })
 
-  pub fits-step : (c : Call) → SFits w32 (setsCount c) → Fits (step t c .tables) × SFits w32 (valueOf (step t c .answer))
+  pub fits-step : (c : Call) → SFits w32 (setsCount c) → CountsFit (step t c .tables) × SFits w32 (valueOf (step t c .answer))
   unfolding step
   fits-step c f =
-      unless-cases t (λ o. Fits (o .tables) × SFits w32 (valueOf (o .answer))) refused-fit (checks t c) (finish (deed t c))
+      unless-cases t (λ o. CountsFit (o .tables) × SFits w32 (valueOf (o .answer))) refused-fit (checks t c) (finish (deed t c))
       (λ k. (does-fits c (finish (deed t c) .tables) f k (does S c k), value-fits c k))
 
   sets-fits : (n : ℕ) (a b : ℤ) → SFits w32 a → SFits w32 b → SFits w32 (setsCount (callOf n a b))
@@ -163,8 +160,8 @@ module _ {t : Tables} (S : Sound t) (F : Fits t) where
       go false false false false false false false false false true = zero-fits
       go false false false false false false false false false false = zero-fits
 
-  pub fits-numbered : (n : ℕ) (a b : ℤ) → SFits w32 a → SFits w32 b → Fits (numbered t n a b .tables) × SFits w32 (valueOf (numbered t n a b .answer))
+  pub fits-numbered : (n : ℕ) (a b : ℤ) → SFits w32 a → SFits w32 b → CountsFit (numbered t n a b .tables) × SFits w32 (valueOf (numbered t n a b .answer))
   unfolding numbered
   fits-numbered n a b f g =
-      unless-cases t (λ o. Fits (o .tables) × SFits w32 (valueOf (o .answer))) refused-fit ((13 when ltb n 1 || ltb 11 n) ∷ (14 when spare n a b) ∷ []) (step t (callOf n a b))
+      unless-cases t (λ o. CountsFit (o .tables) × SFits w32 (valueOf (o .answer))) refused-fit ((13 when ltb n 1 || ltb 11 n) ∷ (14 when spare n a b) ∷ []) (step t (callOf n a b))
       (λ k. fits-step (callOf n a b) (sets-fits n a b f g))

@@ -11,12 +11,13 @@ use Rattle.tables.specs.Limits.{semaphoreLimit}
 use Rattle.tables.specs.Readers.{countOf, freeSemaphore}
 use Rattle.tables.specs.declared.Tables.{Tables}
 use Rattle.tables.specs.declared.Semaphore.{Semaphore}
-use Rattle.lists.proofs.Bools.{either}
+use Rattle.lists.proofs.Bools.{below?, either}
 use Rattle.layout.specs.Begun.{Begun}
 use Rattle.layout.specs.Offsets.{countsAt, orderAt, size}
 use Rattle.layout.proofs.encode.put_counts.Statement.{statement}
 use Rattle.layout.proofs.BegunLaws.{begun-at, begun-count, unmapped}
 use Rattle.layout.proofs.Regions.{store4}
+use Rattle.layout.proofs.Image.{past-fits}
 use Rattle.layout.proofs.encode.put_counts.Tie as tie
 
 abbrev Inv-loop : tie.InvT-loop
@@ -101,7 +102,8 @@ same-length c = search needs
 returns : tie.Need-returns Inv-loop μ-loop
 returns c =
     let k : countsAt + c .before .loop .i * 4 ≡ orderAt = omega arith in
-    (begun-at _ _ _ _ k (c .before .loop .inv .2 _ refl (c .before .before .before .before .pre)), (λ s h. c .before .loop .inv .4 s (omega arith)))
+    let long : length (c .before .before .before .before .args .t .semaphores) ≡ semaphoreLimit = c .before .loop .inv .3 in
+    (begun-at _ _ _ _ k (c .before .loop .inv .2 _ refl (c .before .before .before .before .pre)), (λ s. below? s semaphoreLimit (λ h. c .before .loop .inv .4 s (omega arith)) (past-fits (c .before .before .before .before .args .t) long s)))
 
 pub put-counts-spec : {M : Type 1} → statement M
 put-counts-spec =
