@@ -17,7 +17,7 @@ use borrow.Author.Tests.{eq-eqb, ne-eqb}
 use Rattle.layout.specs.Bytes.{fromBytes, toBytes, wellFormed}
 use Rattle.layout.specs.Offsets.{size}
 use Rattle.promises.specs.Demand.{Demand3}
-use Rattle.promises.specs.Record.{Request, after, recordOf}
+use Rattle.promises.specs.Record.{AllFit, Request, after, recordOf}
 use Rattle.rules.specs.Answers.{valueOf}
 use Rattle.rules.specs.Enter.{numbered}
 use Rattle.rules.specs.declared.Answer.{Answer}
@@ -31,7 +31,7 @@ use Rattle.tables.specs.declared.Tables.{Tables}
 use Rattle.tables.specs.Counts.{CountsFit}
 use Rattle.layout.proofs.Image.{formed-made, tables-back}
 use Rattle.promises.proofs.Main.{demand3}
-use Rattle.promises.proofs.Runs.{AllFit, boot-run-fits, boot-run-sound}
+use Rattle.promises.proofs.Runs.{boot-run-fits, boot-run-sound}
 use Rattle.rules.proofs.Fits.{fits-numbered}
 use Rattle.rules.proofs.Kept.{sound-numbered}
 use Rattle.rules.proofs.Numbers.{enter-sound}
