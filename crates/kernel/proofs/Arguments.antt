@@ -20,6 +20,7 @@ use Rattle.kernel.specs.Arguments.{Chosen, indexBelow}
 use Rattle.kernel.specs.declared.index.Index.{Index}
 use Rattle.kernel.specs.declared.index.Index.the-variants.{At, Outside}
 use Rattle.kernel.specs.declared.target.Target.the-variants.{Refusal, Used}
+use Rattle.kernel.specs.declared.target.Target.{Target}
 
 -- a test of two signed numbers speaks of their bits; it is a test of the numbers
 pub tested : (z y : ℤ) (b : Bool) → SFits w32 z → SFits w32 y → ltZ (toZ w32 (ofZ w32 z)) (toZ w32 (ofZ w32 y)) ≡ b → ltZ z y ≡ b
@@ -81,3 +82,7 @@ module _ (z : ℤ) (s : ℕ) (bs : List ℕ) (u : Bool) (at : indexBelow z semap
       let n = number z semaphoreLimit s at in
       let no' : isUsed t s ≡ false = sym (told (n .1) t st) ∙ e in
       rw (n .0, lt-leb semaphoreLimit s (n .1), no') refl
+
+-- the same of an argument that was passed on
+pub chosen : (z : ℤ) (bs : List ℕ) (x k : Target) → SFits w32 z → x ≡ k → Chosen (toZ w32 (ofZ w32 z)) bs x → Chosen z bs k
+chosen z bs x k f e c = subst (Chosen z bs) e (subst (λ (y : ℤ). Chosen y bs x) (toZ-ofZ w32 z f) c)

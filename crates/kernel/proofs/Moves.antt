@@ -33,8 +33,8 @@ behind a i v = rw add-one (drop-set-lt (suc i) a i v (omega arith))
 pub next : (a : List ℕ) (i : ℕ) → i < length a → drop i a ≡ getD a i 0 ∷ drop (i + 1) a
 next a i h = rw add-one (drop-cons a i 0 h)
 
-pub done : (a : List ℕ) (i : ℕ) → length a ≡ i + 1 → drop (i + 1) a ≡ []
-done a i h = drop-of-length-le a {i = i + 1} (omega arith)
+pub ended : (a : List ℕ) (i : ℕ) → length a ≡ i + 1 → drop (i + 1) a ≡ []
+ended a i h = drop-of-length-le a {i = i + 1} (omega arith)
 
 module _ (p x : ℕ) where
   pub out-here : (ys : List ℕ) → x ≡ p → takeOut p (x ∷ ys) ≡ ys
@@ -93,14 +93,14 @@ module _ (p i : ℕ) (a : List ℕ) (j c : ℕ) (b : List ℕ) (r : Rises p i a 
           small = rw e (g .stands .held .row j (omega arith));
           stands = put (g .small) (withOrder t row) (g .stands);
           is =
-            rw (behind row j c) (walked row j c (x ∷ takeOut p (drop (j + 1) row)) (omega arith))
-            ∙ ap (λ (z : List ℕ). take j row ++ c ∷ z)
+              rw (behind row j c) (walked row j c (x ∷ takeOut p (drop (j + 1) row)) (omega arith))
+              ∙ ap (λ (z : List ℕ). take j row ++ c ∷ z)
               (ap (λ (z : List ℕ). x ∷ takeOut p z) far
               ∙ sym (out-on p x (getD row (j + 1) 0) (drop (j + 1 + 1) row) other)
               ∙ ap (λ (z : List ℕ). takeOut p (x ∷ z)) (sym far)
               ∙ ap (λ (z : ℕ). takeOut p (z ∷ drop (j + 1) row)) e
               ∙ ap (takeOut p) (sym (next row j (omega arith))))
-            ∙ g .is;
+              ∙ g .is;
         }
 
     pub rise-stop : x ≡ p → p < processLimit → Turns (λ t. withOrder t (risen p i (t .order))) a d
@@ -111,9 +111,9 @@ module _ (p i : ℕ) (a : List ℕ) (j c : ℕ) (b : List ℕ) (r : Rises p i a 
         let long : length row ≡ processLimit = g .stands .held .places in
         let e : x ≡ getD row j 0 = at (withOrder t row) (g .stands) in
         let is : set row j c ≡ risen p i (t .order) =
-            sym (stored row j c (omega arith))
-            ∙ ap (λ (z : List ℕ). take j row ++ c ∷ z) (sym (out-here p (getD row j 0) (drop (j + 1) row) (sym e ∙ same)) ∙ ap (takeOut p) (sym (next row j (omega arith))))
-            ∙ g .is in
+        sym (stored row j c (omega arith))
+        ∙ ap (λ (z : List ℕ). take j row ++ c ∷ z) (sym (out-here p (getD row j 0) (drop (j + 1) row) (sym e ∙ same)) ∙ ap (takeOut p) (sym (next row j (omega arith))))
+        ∙ g .is in
         subst (λ (z : List ℕ). Stands (withOrder t z) d) is (put (g .small) (withOrder t row) (g .stands))
 
   pub rise-end : {k : ℕ} → k + 1 ≡ processLimit → j ≡ k → (c < processLimit → Turns (λ t. withOrder t (set (t .order) k c)) b d) → p < processLimit → Turns (λ t. withOrder t (risen p i (t .order))) a d
@@ -122,11 +122,11 @@ module _ (p i : ℕ) (a : List ℕ) (j c : ℕ) (b : List ℕ) (r : Rises p i a 
       let g = r hp t st in
       let row : List ℕ = g .row in
       let long : length row ≡ processLimit = g .stands .held .places in
-      let last : drop (j + 1) row ≡ [] = done row j (omega arith) in
+      let last : drop (j + 1) row ≡ [] = ended row j (omega arith) in
       let is : set row k c ≡ risen p i (t .order) =
-          ap (λ (z : ℕ). set row z c) (sym e) ∙ sym (stored row j c (omega arith))
-          ∙ ap (λ (z : List ℕ). take j row ++ c ∷ z) (last ∙ sym (out-last p (getD row j 0)) ∙ ap (λ (z : List ℕ). takeOut p (getD row j 0 ∷ z)) (sym last) ∙ ap (takeOut p) (sym (next row j (omega arith))))
-          ∙ g .is in
+      ap (λ (z : ℕ). set row z c) (sym e) ∙ sym (stored row j c (omega arith))
+      ∙ ap (λ (z : List ℕ). take j row ++ c ∷ z) (last ∙ sym (out-last p (getD row j 0)) ∙ ap (λ (z : List ℕ). takeOut p (getD row j 0 ∷ z)) (sym last) ∙ ap (takeOut p) (sym (next row j (omega arith))))
+      ∙ g .is in
       subst (λ (z : List ℕ). Stands (withOrder t z) d) is (put (g .small) (withOrder t row) (g .stands))
 
 -- p goes down: place j is open, and p is put in behind
@@ -168,10 +168,10 @@ module _ (level p i : ℕ) (a : List ℕ) (j : ℕ) (b : List ℕ) (r : Sinks le
           row = set row j y;
           stands = put (w .0) (withOrder t row) (g .stands);
           is =
-            ap (λ (z : List ℕ). take (j + 1) (set row j y) ++ putBefore (below level t) p z) tail
-            ∙ walked row j y (putBefore (below level t) p rest) (omega arith)
-            ∙ ap (λ (z : List ℕ). take j row ++ z) (sym (before-on p y (below level t) rest (sym (w .1) ∙ low)) ∙ ap (putBefore (below level t) p) (sym (w .2)))
-            ∙ g .is;
+              ap (λ (z : List ℕ). take (j + 1) (set row j y) ++ putBefore (below level t) p z) tail
+              ∙ walked row j y (putBefore (below level t) p rest) (omega arith)
+              ∙ ap (λ (z : List ℕ). take j row ++ z) (sym (before-on p y (below level t) rest (sym (w .1) ∙ low)) ∙ ap (putBefore (below level t) p) (sym (w .2)))
+              ∙ g .is;
         }
 
     pub sink-stop : v ≡ true → (p < processLimit → Turns (λ t. withOrder t (set (t .order) j p)) b d) → p < processLimit → Turns (λ t. withOrder t (sunk (below level t) p i (t .order))) a d
@@ -182,10 +182,10 @@ module _ (level p i : ℕ) (a : List ℕ) (j : ℕ) (b : List ℕ) (r : Sinks le
         let long : length row ≡ processLimit = g .stands .held .places in
         let w = seen t g in
         let is : set row j p ≡ sunk (below level t) p i (t .order) =
-            sym (stored row j p (omega arith))
-            ∙ ap (λ (z : List ℕ). take j row ++ z)
-              (ap (λ (z : List ℕ). p ∷ z) (w .2) ∙ sym (before-here p y (below level t) (drop (j + 1 + 1) row) (sym (w .1) ∙ passes)) ∙ ap (putBefore (below level t) p) (sym (w .2)))
-            ∙ g .is in
+        sym (stored row j p (omega arith))
+        ∙ ap (λ (z : List ℕ). take j row ++ z)
+        (ap (λ (z : List ℕ). p ∷ z) (w .2) ∙ sym (before-here p y (below level t) (drop (j + 1 + 1) row) (sym (w .1) ∙ passes)) ∙ ap (putBefore (below level t) p) (sym (w .2)))
+        ∙ g .is in
         subst (λ (z : List ℕ). Stands (withOrder t z) d) is (put hp (withOrder t row) (g .stands))
 
   pub sink-end : {k : ℕ} → k + 1 ≡ processLimit → j ≡ k → (p < processLimit → Turns (λ t. withOrder t (set (t .order) k p)) b d) → p < processLimit → Turns (λ t. withOrder t (sunk (below level t) p i (t .order))) a d
@@ -194,9 +194,9 @@ module _ (level p i : ℕ) (a : List ℕ) (j : ℕ) (b : List ℕ) (r : Sinks le
       let g = r hp t st in
       let row : List ℕ = g .row in
       let long : length row ≡ processLimit = g .stands .held .places in
-      let last : drop (j + 1) row ≡ [] = done row j (omega arith) in
+      let last : drop (j + 1) row ≡ [] = ended row j (omega arith) in
       let is : set row k p ≡ sunk (below level t) p i (t .order) =
-          ap (λ (z : ℕ). set row z p) (sym e) ∙ sym (stored row j p (omega arith))
-          ∙ ap (λ (z : List ℕ). take j row ++ z) (ap (λ (z : List ℕ). p ∷ z) last ∙ sym (before-none (below level t) p) ∙ ap (putBefore (below level t) p) (sym last))
-          ∙ g .is in
+      ap (λ (z : ℕ). set row z p) (sym e) ∙ sym (stored row j p (omega arith))
+      ∙ ap (λ (z : List ℕ). take j row ++ z) (ap (λ (z : List ℕ). p ∷ z) last ∙ sym (before-none (below level t) p) ∙ ap (putBefore (below level t) p) (sym last))
+      ∙ g .is in
       subst (λ (z : List ℕ). Stands (withOrder t z) d) is (put hp (withOrder t row) (g .stands))

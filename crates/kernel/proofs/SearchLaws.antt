@@ -24,7 +24,7 @@ use Rattle.tables.specs.declared.Tables.{Tables}
 use Rattle.lists.proofs.NumberLaws.{listed-from, listed-length}
 use Rattle.lists.proofs.RoundLaws.{filter-at, round-again, round-below, round-first}
 use Rattle.kernel.specs.Search.{firstFree}
-use Rattle.kernel.proofs.Found.{First, nothing, something, first-none, first-of, wait-byte}
+use Rattle.kernel.proofs.Found.{First, first-none, first-of, nothing, something, wait-byte}
 
 up-below : (k n limit : ℕ) → k + n ≤ limit → (i : ℕ) → i < length (countUp k n) → getD (countUp k n) i 0 < limit
 up-below k n limit h i l =
@@ -39,8 +39,12 @@ at-limit (something rest x y) h = absurd (omega arith)
 
 module _ (bs : List ℕ) (at limit : ℕ) where
   -- from i on there is first what there is from the start
-  abbrev pub Seeks : ℕ → ℕ → Type 0
+  unfoldable pub Seeks : ℕ → ℕ → Type 0
   Seeks from i = firstFree bs at limit (countUp i (limit - i)) ≡ firstFree bs at limit (countUp from (limit - from))
+
+  pub seek-start : (from : ℕ) → Seeks from from
+  unfolding Seeks
+  seek-start from = refl
 
   module _ (from i : ℕ) (s : Seeks from i) where
     next : i < limit → countUp i (limit - i) ≡ i ∷ countUp (i + 1) (limit - (i + 1))
@@ -48,15 +52,15 @@ module _ (bs : List ℕ) (at limit : ℕ) where
     next h = let e : limit - i ≡ suc (limit - (i + 1)) = omega arith in rw (e, add-one) refl
 
     pub seek-here : i < limit → getD bs (at + i) 0 ≡ 0 → i ≡ firstFree bs at limit (countUp from (limit - from))
-    unfolding filter firstOr
+    unfolding Seeks filter firstOr
     seek-here h e = sym (rw (next h, eq-eqb (getD bs (at + i) 0) 0 e) refl) ∙ s
 
     pub seek-on : i < limit → (getD bs (at + i) 0 ≡ 0 → ⊥) → Seeks from (i + 1)
-    unfolding filter firstOr
+    unfolding Seeks filter firstOr
     seek-on h e = sym (rw (next h, ne-eqb (getD bs (at + i) 0) 0 e) refl) ∙ s
 
     pub seek-end : limit ≤ i → limit ≡ firstFree bs at limit (countUp from (limit - from))
-    unfolding listed filter firstOr
+    unfolding Seeks listed filter firstOr
     seek-end h = let e : limit - i ≡ 0 = omega arith in sym (rw e refl) ∙ s
 
   module _ (from : ℕ) where
@@ -106,7 +110,7 @@ module _ (bs : List ℕ) (k r : ℕ) (t : Tables) (st : Stands t bs) (S : Sound 
       let c : k ≡ t .«next_semaphore» = cursor t st in
       let h : k < semaphoreLimit = rw c (S .laid .cursors .0) in
       subst (λ (z : ℕ). First semaphoreLimit (filter (λ s. not (isUsed t s)) (roundFrom semaphoreLimit z)) r) c
-        (first-free bs usedAt semaphoreLimit (λ s. not (isUsed t s)) (λ i l. ap (λ (z : ℕ). eqb z 0) (st .used i l) ∙ unused-byte (isUsed t i)) k r h (e h))
+      (first-free bs usedAt semaphoreLimit (λ s. not (isUsed t s)) (λ i l. ap (λ (z : ℕ). eqb z 0) (st .used i l) ∙ unused-byte (isUsed t i)) k r h (e h))
 
   pub first-slot : Tells (λ t. t .«next_process») bs k → (k < processLimit → r ≡ firstFree bs statesAt processLimit (roundFrom processLimit k)) → First processLimit (freeSlots t) r
   unfolding Tells Region
@@ -114,4 +118,4 @@ module _ (bs : List ℕ) (k r : ℕ) (t : Tables) (st : Stands t bs) (S : Sound 
       let c : k ≡ t .«next_process» = cursor t st in
       let h : k < processLimit = rw c (S .laid .cursors .1) in
       subst (λ (z : ℕ). First processLimit (filter (λ p. isFree (stateOf t p)) (roundFrom processLimit z)) r) c
-        (first-free bs statesAt processLimit (λ p. isFree (stateOf t p)) (λ i l. ap (λ (z : ℕ). eqb z 0) (st .states i l) ∙ free-byte (stateOf t i)) k r h (e h))
+      (first-free bs statesAt processLimit (λ p. isFree (stateOf t p)) (λ i l. ap (λ (z : ℕ). eqb z 0) (st .states i l) ∙ free-byte (stateOf t i)) k r h (e h))

@@ -18,7 +18,7 @@ use Rattle.tables.specs.declared.Process.{Process}
 use Rattle.tables.specs.declared.Tables.{Tables}
 use Rattle.lists.proofs.ListLaws.{passes}
 use Rattle.kernel.specs.Row.{Spotted, below, placed, risen, sunk}
-use Rattle.kernel.proofs.Moves.{before-here, before-none, before-on, done, next, out-here, out-last, out-on}
+use Rattle.kernel.proofs.Moves.{before-here, before-none, before-on, ended, next, out-here, out-last, out-on}
 
 -- a test of the entry that was read
 module _ (q level : ℕ) (bs : List ℕ) (x : Process) (told : q < processLimit → Tells (λ t. process t q) bs x) where
@@ -73,10 +73,12 @@ module _ (p level : ℕ) (bs : List ℕ) (i : ℕ) (l : Looks p level i bs) wher
   unfolding Spotted Looks
   spot-last e t st =
       let long : length (t .order) ≡ processLimit = st .held .places in
-      let last : drop (i + 1) (t .order) ≡ [] = done (t .order) i (omega arith) in
-      let this : drop i (t .order) ≡ getD (t .order) i 0 ∷ [] = next (t .order) i (omega arith) ∙ ap (λ (z : List ℕ). getD (t .order) i 0 ∷ z) last in
-      (at-p (omega arith) t st, λ n.
-      ap (λ (z : List ℕ). take i (t .order) ++ z) (ap (λ (z : List ℕ). p ∷ takeOut p z) this ∙ sym (place-last (below level t) p (getD (t .order) i 0)) ∙ ap (place (below level t) p) (sym this)) ∙ l t st)
+      let last : drop (i + 1) (t .order) ≡ [] = ended (t .order) i (omega arith) in
+      let this : drop i (t .order) ≡ getD (t .order) i 0 ∷ [] = next (t .order) i (omega arith) ∙ ap (λ (z : List ℕ). getD (t .order) i 0 ∷ z) last in (
+        at-p (omega arith) t st,
+        λ n.
+            ap (λ (z : List ℕ). take i (t .order) ++ z) (ap (λ (z : List ℕ). p ∷ takeOut p z) this ∙ sym (place-last (below level t) p (getD (t .order) i 0)) ∙ ap (place (below level t) p) (sym this)) ∙ l t st,
+      )
 
   pub spot-end : (k : ℕ) → k + 1 ≡ processLimit → i ≡ k → Spotted p level k bs
   spot-end k h e = subst (λ (z : ℕ). Spotted p level z bs) e (spot-last (omega arith))
@@ -98,9 +100,11 @@ module _ (p level : ℕ) (bs : List ℕ) (i : ℕ) (l : Looks p level i bs) wher
       pub spot-passes : v ≡ true → Spotted p level i bs
       unfolding Spotted Looks
       spot-passes passes t st =
-          let w = looked t st in
-          (at-p (omega arith) t st, λ n. ap (λ (z : List ℕ). take i (t .order) ++ z)
-            (ap (λ (z : List ℕ). p ∷ takeOut p z) (w .1) ∙ sym (place-before (below level t) p q (getD (t .order) (i + 1) 0) (drop (i + 1 + 1) (t .order)) other (sym (w .0) ∙ passes)) ∙ ap (place (below level t) p) (sym (w .1))) ∙ l t st)
+          let w = looked t st in (
+            at-p (omega arith) t st,
+            λ n. ap (λ (z : List ℕ). take i (t .order) ++ z)
+                (ap (λ (z : List ℕ). p ∷ takeOut p z) (w .1) ∙ sym (place-before (below level t) p q (getD (t .order) (i + 1) 0) (drop (i + 1 + 1) (t .order)) other (sym (w .0) ∙ passes)) ∙ ap (place (below level t) p) (sym (w .1))) ∙ l t st,
+          )
 
       pub look-on : v ≡ false → Looks p level (i + 1) bs
       unfolding Looks Tells
@@ -111,7 +115,7 @@ module _ (p level : ℕ) (bs : List ℕ) (i : ℕ) (l : Looks p level i bs) wher
           ap (λ (z : List ℕ). z ++ place (below level t) p (drop (i + 1) (t .order))) (more ∙ ap (λ (z : ℕ). take i (t .order) ++ (z ∷ [])) (sym (at t st)))
           ∙ append-snoc (take i (t .order)) q (place (below level t) p (drop (i + 1) (t .order)))
           ∙ ap (λ (z : List ℕ). take i (t .order) ++ z)
-            (ap (λ (z : List ℕ). q ∷ place (below level t) p z) (w .2) ∙ sym (place-on (below level t) p q (getD (t .order) (i + 1) 0) (drop (i + 1 + 1) (t .order)) other (sym (w .0) ∙ low)) ∙ ap (place (below level t) p) (sym (w .1)))
+          (ap (λ (z : List ℕ). q ∷ place (below level t) p z) (w .2) ∙ sym (place-on (below level t) p q (getD (t .order) (i + 1) 0) (drop (i + 1 + 1) (t .order)) other (sym (w .0) ∙ low)) ∙ ap (place (below level t) p) (sym (w .1)))
           ∙ l t st
 
 -- the whole move

@@ -1,168 +1,121 @@
+use mathlib.Core.Path.{_∙_, sym}
 use borrow.Author.Needs.{needs}
 use Rattle.kernel.proofs.enter.call.Statement.{statement}
+use Rattle.kernel.proofs.EnterLaws.{eleven, entered, high-13, low-13, spare-14}
 use Rattle.kernel.proofs.enter.call.Tie as tie
-use Rattle.kernel.proofs.enter.call.Reads as reads
-use Rattle.kernel.proofs.enter.call.Lts as lts
-use Rattle.kernel.proofs.count.count_of.Reads as count-of-reads
-use Rattle.kernel.proofs.delete.delete.Reads as delete-reads
-use Rattle.kernel.proofs.enter.spare.Reads as spare-reads
-use Rattle.kernel.proofs.kill.kill.Reads as kill-reads
-use Rattle.kernel.proofs.make_process.make_process.Reads as make-process-reads
-use Rattle.kernel.proofs.make_semaphore.make_semaphore.Reads as make-semaphore-reads
-use Rattle.kernel.proofs.reset.reset.Reads as reset-reads
-use Rattle.kernel.proofs.resume.resume.Reads as resume-reads
-use Rattle.kernel.proofs.signal.signal.Reads as signal-reads
-use Rattle.kernel.proofs.suspend.suspend.Reads as suspend-reads
-use Rattle.kernel.proofs.wait.wait.Reads as wait-reads
-use Rattle.kernel.proofs.yields.yields.Reads as yields-reads
 
--- src/enter.rt:42:9
 returns : tie.Need-returns
-returns c = ?
+returns c = low-13 _ _ _ _ (c .if1 .taken)
 
--- src/enter.rt:45:9
 returns-2 : tie.Need-returns-2
-returns-2 c = ?
+returns-2 c = high-13 _ _ _ _ (c .before .if1 .left) (c .if2 .taken)
 
--- src/enter.rt:47:8
 spare-requires : tie.Need-spare-requires
 spare-requires c κs = search needs
 
--- src/enter.rt:48:9
 returns-3 : tie.Need-returns-3
-returns-3 c = ?
+returns-3 c = spare-14 _ _ _ (c .before .before .before .before .before .fits .a) (c .before .before .before .before .before .fits .b) (c .before .before .before .if1 .left) (c .before .before .if2 .left) _ (sym (c .before .spare .ensures) ∙ c .if3 .taken)
 
--- src/enter.rt:51:14
 wait-requires : tie.Need-wait-requires
 wait-requires c κs = search needs
 
--- src/enter.rt:52:14
 signal-requires : tie.Need-signal-requires
 signal-requires c κs = search needs
 
--- src/enter.rt:53:14
 make-semaphore-requires : tie.Need-make-semaphore-requires
 make-semaphore-requires c κs = search needs
 
--- src/enter.rt:54:14
 delete-requires : tie.Need-delete-requires
 delete-requires c κs = search needs
 
--- src/enter.rt:55:14
 reset-requires : tie.Need-reset-requires
 reset-requires c κs = search needs
 
--- src/enter.rt:56:14
 make-process-requires : tie.Need-make-process-requires
 make-process-requires c κs = search needs
 
--- src/enter.rt:57:14
 resume-requires : tie.Need-resume-requires
 resume-requires c κs = search needs
 
--- src/enter.rt:58:14
 suspend-requires : tie.Need-suspend-requires
 suspend-requires c κs = search needs
 
--- src/enter.rt:59:14
 kill-requires : tie.Need-kill-requires
 kill-requires c κs = search needs
 
--- src/enter.rt:60:15
 yields-requires : tie.Need-yields-requires
 yields-requires c κs = search needs
 
--- src/enter.rt:61:14
 count-of-requires : tie.Need-count-of-requires
 count-of-requires c κs = search needs
 
--- src/enter.rt:37:1
 same-length : tie.Need-same-length
 same-length c = search needs
 
--- src/enter.rt:37:1
 returns-4 : tie.Need-returns-4
-returns-4 c = ?
+returns-4 c = entered _ (c .before .before .before .before .before .before .before .before .before .before .args .a) (c .before .before .before .before .before .before .before .before .before .before .args .b) (c .before .before .before .before .before .before .before .before .before .before .fits .a) (c .before .before .before .before .before .before .before .before .before .before .fits .b) (c .before .before .before .before .before .before .before .before .if1 .left) (c .before .before .before .before .before .before .before .if2 .left) 1 (c .before .before .before .before .match .keys1) (sym (c .before .before .before .before .before .before .spare .ensures) ∙ c .before .before .before .before .before .if3 .left) _ _ _ (c .before .before .wait .ensures)
 
--- src/enter.rt:37:1
 same-length-2 : tie.Need-same-length-2
 same-length-2 c = search needs
 
--- src/enter.rt:37:1
 returns-5 : tie.Need-returns-5
-returns-5 c = ?
+returns-5 c = entered _ (c .before .before .before .before .before .before .before .before .before .before .args .a) (c .before .before .before .before .before .before .before .before .before .before .args .b) (c .before .before .before .before .before .before .before .before .before .before .fits .a) (c .before .before .before .before .before .before .before .before .before .before .fits .b) (c .before .before .before .before .before .before .before .before .if1 .left) (c .before .before .before .before .before .before .before .if2 .left) 2 (c .before .before .before .before .match .keys2) (sym (c .before .before .before .before .before .before .spare .ensures) ∙ c .before .before .before .before .before .if3 .left) _ _ _ (c .before .before .signal .ensures)
 
--- src/enter.rt:37:1
 same-length-3 : tie.Need-same-length-3
 same-length-3 c = search needs
 
--- src/enter.rt:37:1
 returns-6 : tie.Need-returns-6
-returns-6 c = ?
+returns-6 c = entered _ (c .before .before .before .before .before .before .before .before .before .before .args .a) (c .before .before .before .before .before .before .before .before .before .before .args .b) (c .before .before .before .before .before .before .before .before .before .before .fits .a) (c .before .before .before .before .before .before .before .before .before .before .fits .b) (c .before .before .before .before .before .before .before .before .if1 .left) (c .before .before .before .before .before .before .before .if2 .left) 3 (c .before .before .before .before .match .keys3) (sym (c .before .before .before .before .before .before .spare .ensures) ∙ c .before .before .before .before .before .if3 .left) _ _ _ (c .before .before .make-semaphore .ensures)
 
--- src/enter.rt:37:1
 same-length-4 : tie.Need-same-length-4
 same-length-4 c = search needs
 
--- src/enter.rt:37:1
 returns-7 : tie.Need-returns-7
-returns-7 c = ?
+returns-7 c = entered _ (c .before .before .before .before .before .before .before .before .before .before .args .a) (c .before .before .before .before .before .before .before .before .before .before .args .b) (c .before .before .before .before .before .before .before .before .before .before .fits .a) (c .before .before .before .before .before .before .before .before .before .before .fits .b) (c .before .before .before .before .before .before .before .before .if1 .left) (c .before .before .before .before .before .before .before .if2 .left) 4 (c .before .before .before .before .match .keys4) (sym (c .before .before .before .before .before .before .spare .ensures) ∙ c .before .before .before .before .before .if3 .left) _ _ _ (c .before .before .delete .ensures)
 
--- src/enter.rt:37:1
 same-length-5 : tie.Need-same-length-5
 same-length-5 c = search needs
 
--- src/enter.rt:37:1
 returns-8 : tie.Need-returns-8
-returns-8 c = ?
+returns-8 c = entered _ (c .before .before .before .before .before .before .before .before .before .before .args .a) (c .before .before .before .before .before .before .before .before .before .before .args .b) (c .before .before .before .before .before .before .before .before .before .before .fits .a) (c .before .before .before .before .before .before .before .before .before .before .fits .b) (c .before .before .before .before .before .before .before .before .if1 .left) (c .before .before .before .before .before .before .before .if2 .left) 5 (c .before .before .before .before .match .keys5) (sym (c .before .before .before .before .before .before .spare .ensures) ∙ c .before .before .before .before .before .if3 .left) _ _ _ (c .before .before .reset .ensures)
 
--- src/enter.rt:37:1
 same-length-6 : tie.Need-same-length-6
 same-length-6 c = search needs
 
--- src/enter.rt:37:1
 returns-9 : tie.Need-returns-9
-returns-9 c = ?
+returns-9 c = entered _ (c .before .before .before .before .before .before .before .before .before .before .args .a) (c .before .before .before .before .before .before .before .before .before .before .args .b) (c .before .before .before .before .before .before .before .before .before .before .fits .a) (c .before .before .before .before .before .before .before .before .before .before .fits .b) (c .before .before .before .before .before .before .before .before .if1 .left) (c .before .before .before .before .before .before .before .if2 .left) 6 (c .before .before .before .before .match .keys6) (sym (c .before .before .before .before .before .before .spare .ensures) ∙ c .before .before .before .before .before .if3 .left) _ _ _ (c .before .before .make-process .ensures)
 
--- src/enter.rt:37:1
 same-length-7 : tie.Need-same-length-7
 same-length-7 c = search needs
 
--- src/enter.rt:37:1
 returns-10 : tie.Need-returns-10
-returns-10 c = ?
+returns-10 c = entered _ (c .before .before .before .before .before .before .before .before .before .before .args .a) (c .before .before .before .before .before .before .before .before .before .before .args .b) (c .before .before .before .before .before .before .before .before .before .before .fits .a) (c .before .before .before .before .before .before .before .before .before .before .fits .b) (c .before .before .before .before .before .before .before .before .if1 .left) (c .before .before .before .before .before .before .before .if2 .left) 7 (c .before .before .before .before .match .keys7) (sym (c .before .before .before .before .before .before .spare .ensures) ∙ c .before .before .before .before .before .if3 .left) _ _ _ (c .before .before .resume .ensures)
 
--- src/enter.rt:37:1
 same-length-8 : tie.Need-same-length-8
 same-length-8 c = search needs
 
--- src/enter.rt:37:1
 returns-11 : tie.Need-returns-11
-returns-11 c = ?
+returns-11 c = entered _ (c .before .before .before .before .before .before .before .before .before .before .args .a) (c .before .before .before .before .before .before .before .before .before .before .args .b) (c .before .before .before .before .before .before .before .before .before .before .fits .a) (c .before .before .before .before .before .before .before .before .before .before .fits .b) (c .before .before .before .before .before .before .before .before .if1 .left) (c .before .before .before .before .before .before .before .if2 .left) 8 (c .before .before .before .before .match .keys8) (sym (c .before .before .before .before .before .before .spare .ensures) ∙ c .before .before .before .before .before .if3 .left) _ _ _ (c .before .before .suspend .ensures)
 
--- src/enter.rt:37:1
 same-length-9 : tie.Need-same-length-9
 same-length-9 c = search needs
 
--- src/enter.rt:37:1
 returns-12 : tie.Need-returns-12
-returns-12 c = ?
+returns-12 c = entered _ (c .before .before .before .before .before .before .before .before .before .before .args .a) (c .before .before .before .before .before .before .before .before .before .before .args .b) (c .before .before .before .before .before .before .before .before .before .before .fits .a) (c .before .before .before .before .before .before .before .before .before .before .fits .b) (c .before .before .before .before .before .before .before .before .if1 .left) (c .before .before .before .before .before .before .before .if2 .left) 9 (c .before .before .before .before .match .keys9) (sym (c .before .before .before .before .before .before .spare .ensures) ∙ c .before .before .before .before .before .if3 .left) _ _ _ (c .before .before .kill .ensures)
 
--- src/enter.rt:37:1
 same-length-10 : tie.Need-same-length-10
 same-length-10 c = search needs
 
--- src/enter.rt:37:1
 returns-13 : tie.Need-returns-13
-returns-13 c = ?
+returns-13 c = entered _ (c .before .before .before .before .before .before .before .before .before .before .args .a) (c .before .before .before .before .before .before .before .before .before .before .args .b) (c .before .before .before .before .before .before .before .before .before .before .fits .a) (c .before .before .before .before .before .before .before .before .before .before .fits .b) (c .before .before .before .before .before .before .before .before .if1 .left) (c .before .before .before .before .before .before .before .if2 .left) 10 (c .before .before .before .before .match .keys10) (sym (c .before .before .before .before .before .before .spare .ensures) ∙ c .before .before .before .before .before .if3 .left) _ _ _ (c .before .before .yields .ensures)
 
--- src/enter.rt:37:1
 same-length-11 : tie.Need-same-length-11
 same-length-11 c = search needs
 
--- src/enter.rt:37:1
 returns-14 : tie.Need-returns-14
-returns-14 c = ?
+returns-14 c =
+    let rest = c .before .before .match .rest in
+    entered _ (c .before .before .before .before .before .before .before .before .args .a) (c .before .before .before .before .before .before .before .before .args .b) (c .before .before .before .before .before .before .before .before .fits .a) (c .before .before .before .before .before .before .before .before .fits .b) (c .before .before .before .before .before .before .if1 .left) (c .before .before .before .before .before .if2 .left) 11 (eleven _ (c .before .before .before .before .before .before .if1 .left) (c .before .before .before .before .before .if2 .left) (rest .0 .0 .0 .0 .0 .0 .0 .0 .0 .1) (rest .0 .0 .0 .0 .0 .0 .0 .0 .1) (rest .0 .0 .0 .0 .0 .0 .0 .1) (rest .0 .0 .0 .0 .0 .0 .1) (rest .0 .0 .0 .0 .0 .1) (rest .0 .0 .0 .0 .1) (rest .0 .0 .0 .1) (rest .0 .0 .1) (rest .0 .1) (rest .1)) (sym (c .before .before .before .before .spare .ensures) ∙ c .before .before .before .if3 .left) _ _ _ (c .count-of .ensures)
 
 pub call-spec : {M : Type 1} → statement M
 call-spec =

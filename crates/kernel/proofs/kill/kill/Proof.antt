@@ -1,42 +1,35 @@
+use mathlib.Core.Path.{refl}
 use borrow.Author.Needs.{needs}
+use Rattle.rules.specs.Calls.{Kill}
+use Rattle.tables.specs.Limits.{processLimit}
 use Rattle.kernel.proofs.kill.kill.Statement.{statement}
+use Rattle.kernel.proofs.Arguments.{number, passed}
+use Rattle.kernel.proofs.CallLaws.{numbered-goes, process-outside}
 use Rattle.kernel.proofs.kill.kill.Tie as tie
-use Rattle.kernel.proofs.kill.kill.Reads as reads
-use Rattle.kernel.proofs.kill.kill.Lts as lts
-use Rattle.kernel.proofs.index.index_below.Reads as index-below-reads
-use Rattle.kernel.proofs.kill.kill_at.Reads as kill-at-reads
 
--- src/kill.rt:85:32
 cast-index-below : tie.Need-cast-index-below
 cast-index-below c = search needs
 
--- src/kill.rt:85:9
 index-below-requires : tie.Need-index-below-requires
 index-below-requires c κs = search needs
 
--- src/kill.rt:87:27
 enum-told : tie.Need-enum-told
 enum-told c = search needs
 
--- src/kill.rt:88:19
 enum-known-index : tie.Need-enum-known-index
 enum-known-index c = search needs
 
--- src/kill.rt:88:25
 kill-at-requires : tie.Need-kill-at-requires
-kill-at-requires c κs = ?
+kill-at-requires c κs = (search needs, number (c .before .before .before .before .before .before .args .a) processLimit _ (passed _ _ _ _ (c .before .before .before .before .before .before .fits .a) (c .before .before .before .before .index-below .ensures) (c .before .before .index .given .1)) .1)
 
--- src/kill.rt:81:1
 returns : tie.Need-returns
-returns c = ?
+returns c = process-outside (Kill (c .before .before .before .before .args .a)) (c .before .before .before .before .args .a) _ (λ t. refl) (passed _ _ _ _ (c .before .before .before .before .fits .a) (c .before .before .index-below .ensures) (c .enum-told .given .1))
 
--- src/kill.rt:81:1
 same-length : tie.Need-same-length
 same-length c = search needs
 
--- src/kill.rt:81:1
 returns-2 : tie.Need-returns-2
-returns-2 c = ?
+returns-2 c = numbered-goes Kill (c .before .before .before .before .before .before .before .before .before .args .a) _ _ _ _ _ (passed _ _ _ _ (c .before .before .before .before .before .before .before .before .before .fits .a) (c .before .before .before .before .before .before .before .index-below .ensures) (c .before .before .before .before .before .index .given .1)) (c .before .before .kill-at .ensures)
 
 pub kill-spec : {M : Type 1} → statement M
 kill-spec =

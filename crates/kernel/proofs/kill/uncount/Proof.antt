@@ -1,39 +1,33 @@
+use native.Mathlib.Omega.{arith}
+use mathlib.Core.Path.{_∙_}
+use mir.Syntax.{w32}
+use mir.ValLaws.{toZ-ofZ}
 use borrow.Author.Needs.{needs}
 use Rattle.kernel.proofs.kill.uncount.Statement.{statement}
+use Rattle.kernel.proofs.CallLaws.{told-as}
+use Rattle.kernel.proofs.ProcessLaws.{raise-turns}
 use Rattle.kernel.proofs.kill.uncount.Tie as tie
-use Rattle.kernel.proofs.kill.uncount.Reads as reads
-use Rattle.kernel.proofs.kill.uncount.Lts as lts
-use Rattle.kernel.proofs.counts.raised.Reads as raised-reads
-use Rattle.layout.proofs.fields.count.Reads as count-reads
-use Rattle.layout.proofs.fields.put_count.Reads as put-count-reads
 
--- src/kill.rt:42:12
 cast-if1 : tie.Need-cast-if1
 cast-if1 c = search needs
 
--- src/kill.rt:43:13
 count-requires : tie.Need-count-requires
 count-requires c κs = search needs
 
--- src/kill.rt:44:29
 raised-requires : tie.Need-raised-requires
 raised-requires c κs = search needs
 
--- src/kill.rt:44:9
 put-count-requires : tie.Need-put-count-requires
 put-count-requires c κs = search needs
 
--- src/kill.rt:45:9
 same-length : tie.Need-same-length
 same-length c = search needs
 
--- src/kill.rt:45:9
 returns : tie.Need-returns
-returns c = ?
+returns c = λ h. raise-turns _ _ _ _ _ (told-as _ _ _ _ (toZ-ofZ w32 _ (record { sfits = c .before .before .before .before .before .count .ok })) (c .before .before .before .before .before .count .ensures)) (toZ-ofZ w32 _ (record { sfits = c .before .before .before .raised .ok }) ∙ c .before .before .before .raised .ensures) (c .before .before .put-count .ensures)
 
--- src/kill.rt:38:1
 returns-2 : tie.Need-returns-2
-returns-2 c = ?
+returns-2 c = λ h. absurd (omega arith)
 
 pub uncount-spec : {M : Type 1} → statement M
 uncount-spec =

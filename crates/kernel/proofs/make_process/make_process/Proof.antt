@@ -1,42 +1,43 @@
+use Prim.Native.Nat.{_+_}
+use native.Mathlib.Omega.{arith}
+use mathlib.Core.Path.{_≡_}
 use borrow.Author.Needs.{needs}
+use Rattle.rules.specs.Calls.{MakeProcess}
+use Rattle.tables.specs.Limits.{priorityLimit}
+use Rattle.kernel.specs.Arguments.{indexBelow}
+use Rattle.kernel.specs.declared.index.Index.the-variants.{At}
 use Rattle.kernel.proofs.make_process.make_process.Statement.{statement}
+use Rattle.kernel.proofs.Arguments.{number, passed}
+use Rattle.kernel.proofs.CallLaws.{numbered-goes}
+use Rattle.kernel.proofs.MakeLaws.{make-11}
 use Rattle.kernel.proofs.make_process.make_process.Tie as tie
-use Rattle.kernel.proofs.make_process.make_process.Reads as reads
-use Rattle.kernel.proofs.make_process.make_process.Lts as lts
-use Rattle.kernel.proofs.index.index_below.Reads as index-below-reads
-use Rattle.kernel.proofs.make_process.make_process_of.Reads as make-process-of-reads
 
--- src/make_process.rt:48:32
 add-index-below : tie.Need-add-index-below
 add-index-below c = search needs
 
--- src/make_process.rt:48:9
 index-below-requires : tie.Need-index-below-requires
 index-below-requires c κs = search needs
 
--- src/make_process.rt:50:27
 enum-told : tie.Need-enum-told
 enum-told c = search needs
 
--- src/make_process.rt:51:19
 enum-known-index : tie.Need-enum-known-index
 enum-known-index c = search needs
 
--- src/make_process.rt:51:32
 make-process-of-requires : tie.Need-make-process-of-requires
 make-process-of-requires c κs = search needs
 
--- src/make_process.rt:44:1
 returns : tie.Need-returns
-returns c = ?
+returns c = make-11 (c .before .before .before .before .args .a) _ (passed _ _ _ _ (c .before .before .before .before .fits .a) (c .before .before .index-below .ensures) (c .enum-told .given .1))
 
--- src/make_process.rt:44:1
 same-length : tie.Need-same-length
 same-length c = search needs
 
--- src/make_process.rt:44:1
 returns-2 : tie.Need-returns-2
-returns-2 c = ?
+returns-2 c =
+    let at : indexBelow (c .before .before .before .before .before .before .before .before .before .args .a) (priorityLimit + 1) ≡ At _ = passed _ _ _ _ (c .before .before .before .before .before .before .before .before .before .fits .a) (c .before .before .before .before .before .before .before .index-below .ensures) (c .before .before .before .before .before .index .given .1) in
+    let small = number (c .before .before .before .before .before .before .before .before .before .args .a) (priorityLimit + 1) _ at .1 in
+    numbered-goes MakeProcess _ _ _ _ _ _ at (c .before .before .make-process-of .ensures (omega arith))
 
 pub make-process-spec : {M : Type 1} → statement M
 make-process-spec =

@@ -1,74 +1,55 @@
+use mathlib.Core.Path.{_∙_, sym}
+use mir.Syntax.{w32}
+use mir.ValLaws.{toZ-ofZ, toZ-pos}
 use borrow.Author.Needs.{needs}
 use Rattle.kernel.proofs.make_semaphore.make_semaphore.Statement.{statement}
+use Rattle.kernel.proofs.MakeLaws.{make-3, make-4, make-semaphore-done}
 use Rattle.kernel.proofs.make_semaphore.make_semaphore.Tie as tie
-use Rattle.kernel.proofs.make_semaphore.make_semaphore.Reads as reads
-use Rattle.kernel.proofs.make_semaphore.make_semaphore.Lts as lts
-use Rattle.kernel.proofs.counts.below_zero.Reads as below-zero-reads
-use Rattle.kernel.proofs.search.free_round.Reads as free-round-reads
-use Rattle.kernel.proofs.search.one_past.Reads as one-past-reads
-use Rattle.layout.proofs.fields.next_semaphore.Reads as next-semaphore-reads
-use Rattle.layout.proofs.fields.put_next_semaphore.Reads as put-next-semaphore-reads
-use Rattle.layout.proofs.fields.put_semaphore.Reads as put-semaphore-reads
 
--- src/make_semaphore.rt:20:8
 below-zero-requires : tie.Need-below-zero-requires
 below-zero-requires c κs = search needs
 
--- src/make_semaphore.rt:21:9
 returns : tie.Need-returns
-returns c = ?
+returns c = make-3 (c .before .before .before .args .a) _ (rw (toZ-ofZ w32 (c .before .before .before .args .a) (c .before .before .before .fits .a)) at (sym (c .before .below-zero .ensures) ∙ c .if1 .taken))
 
--- src/make_semaphore.rt:23:9
 next-semaphore-requires : tie.Need-next-semaphore-requires
 next-semaphore-requires c κs = search needs
 
--- src/make_semaphore.rt:24:57
 cast-free-round : tie.Need-cast-free-round
 cast-free-round c = search needs
 
--- src/make_semaphore.rt:24:9
 free-round-requires : tie.Need-free-round-requires
 free-round-requires c κs = search needs
 
--- src/make_semaphore.rt:26:9
 same-length : tie.Need-same-length
 same-length c = search needs
 
--- src/make_semaphore.rt:26:9
 returns-2 : tie.Need-returns-2
-returns-2 c = ?
+returns-2 c = make-4 (c .before .before .before .before .before .before .before .before .args .a) (rw (toZ-ofZ w32 (c .before .before .before .before .before .before .before .before .args .a) (c .before .before .before .before .before .before .before .before .fits .a)) at (sym (c .before .before .before .before .before .before .below-zero .ensures) ∙ c .before .before .before .before .before .if1 .left)) _ _ _ (c .before .before .before .next-semaphore .ensures) (c .before .free-round .ensures .1) (c .if2 .taken)
 
--- src/make_semaphore.rt:28:13
 cast-s : tie.Need-cast-s
 cast-s c = search needs
 
--- src/make_semaphore.rt:29:5
 put-semaphore-requires : tie.Need-put-semaphore-requires
 put-semaphore-requires c κs = search needs
 
--- src/make_semaphore.rt:30:43
 cast-one-past : tie.Need-cast-one-past
 cast-one-past c = search needs
 
--- src/make_semaphore.rt:30:31
 one-past-requires : tie.Need-one-past-requires
 one-past-requires c κs = search needs
 
--- src/make_semaphore.rt:30:5
 put-next-semaphore-requires : tie.Need-put-next-semaphore-requires
 put-next-semaphore-requires c κs = search needs
 
--- src/make_semaphore.rt:31:18
 cast-t20 : tie.Need-cast-t20
 cast-t20 c = search needs
 
--- src/make_semaphore.rt:16:1
 same-length-2 : tie.Need-same-length-2
 same-length-2 c = search needs
 
--- src/make_semaphore.rt:16:1
 returns-3 : tie.Need-returns-3
-returns-3 c = ?
+returns-3 c = make-semaphore-done (c .before .before .before .before .before .before .before .before .before .before .before .before .before .before .before .before .before .args .a) (rw (toZ-ofZ w32 (c .before .before .before .before .before .before .before .before .before .before .before .before .before .before .before .before .before .args .a) (c .before .before .before .before .before .before .before .before .before .before .before .before .before .before .before .before .before .fits .a)) at (sym (c .before .before .before .before .before .before .before .before .before .before .before .before .before .before .before .below-zero .ensures) ∙ c .before .before .before .before .before .before .before .before .before .before .before .before .before .before .if1 .left)) _ _ _ (c .before .before .before .before .before .before .before .before .before .before .before .before .next-semaphore .ensures) (c .before .before .before .before .before .before .before .before .before .before .free-round .ensures .1) _ _ (rw (toZ-ofZ w32 (c .before .before .before .before .before .before .before .before .before .before .before .before .before .before .before .before .before .args .a) (c .before .before .before .before .before .before .before .before .before .before .before .before .before .before .before .before .before .fits .a)) at (c .before .before .before .before .before .before .before .put-semaphore .ensures)) (rw (c .before .before .before .one-past .ensures) at (c .before .before .put-next-semaphore .ensures)) _ (toZ-pos w32 (c .before .before .before .before .before .before .before .before .before .before .free-round .result) (search needs)) (c .before .before .before .before .before .before .before .before .before .if2 .left)
 
 pub make-semaphore-spec : {M : Type 1} → statement M
 make-semaphore-spec =

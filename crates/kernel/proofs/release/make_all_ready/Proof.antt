@@ -1,46 +1,42 @@
+use Prim.Native.Nat.{_-_, _≤_}
+use mathlib.Core.Path.{_≡_}
+use lib.ListN.{length}
+use borrow.Author.Needs.{needs}
+use Rattle.layout.specs.Offsets.{size}
+use Rattle.tables.specs.Limits.{processLimit}
 use Rattle.kernel.proofs.release.make_all_ready.Statement.{statement}
+use Rattle.kernel.proofs.ReleaseLaws.{Frees, free-end, free-on, free-start}
 use Rattle.kernel.proofs.release.make_all_ready.Tie as tie
-use Rattle.kernel.proofs.release.make_all_ready.Reads as reads
-use Rattle.kernel.proofs.release.make_all_ready.Lts as lts
-use Rattle.kernel.proofs.release.ready_if.Reads as ready-if-reads
 
 abbrev Inv-loop : tie.InvT-loop
-Inv-loop bytes₀ ps i₀ bytes i = ?
+Inv-loop bytes₀ ps i₀ bytes i = (i ≤ processLimit) × (length bytes ≡ size) × (length ps ≡ processLimit) × Frees ps bytes₀ i bytes
 
 abbrev μ-loop : tie.MeasureT-loop
-μ-loop bytes₀ ps i₀ bytes i = ?
+μ-loop bytes₀ ps i₀ bytes i = processLimit - i
 
--- src/release.rt:64:5
 loop-holds : tie.Need-loop-holds Inv-loop μ-loop
-loop-holds c = ?
+loop-holds c = (search needs, search needs, search needs, free-start _ _)
 
--- src/release.rt:65:25
 array-read-ready-if : tie.Need-array-read-ready-if Inv-loop μ-loop
-array-read-ready-if c = ?
+array-read-ready-if c = search needs
 
--- src/release.rt:65:9
 ready-if-requires : tie.Need-ready-if-requires Inv-loop μ-loop
-ready-if-requires c κs = ?
+ready-if-requires c κs = search needs
 
--- src/release.rt:66:13
 add-i : tie.Need-add-i Inv-loop μ-loop
-add-i c = ?
+add-i c = search needs
 
--- src/release.rt:64:5
 loop-less : tie.Need-loop-less Inv-loop μ-loop
-loop-less c = ?
+loop-less c = search needs
 
--- src/release.rt:64:5
 loop-again : tie.Need-loop-again Inv-loop μ-loop
-loop-again c = ?
+loop-again c = (search needs, search needs, search needs, free-on _ _ _ _ _ (search needs) (c .before .before .before .before .before .loop .inv .3) (c .before .before .ready-if .ensures))
 
--- src/release.rt:59:1
 same-length : tie.Need-same-length Inv-loop μ-loop
-same-length c = ?
+same-length c = search needs
 
--- src/release.rt:59:1
 returns : tie.Need-returns Inv-loop μ-loop
-returns c = ?
+returns c = free-end _ _ _ _ (search needs) (c .before .loop .inv .3)
 
 pub make-all-ready-spec : {M : Type 1} → statement M
 make-all-ready-spec =

@@ -1,42 +1,38 @@
+use Prim.Native.Nat.{_-_, _≤_}
+use mathlib.Core.Path.{_≡_}
+use lib.ListN.{length}
+use borrow.Author.Needs.{needs}
+use Rattle.tables.specs.Limits.{processLimit}
 use Rattle.kernel.proofs.release.picked.Statement.{statement}
+use Rattle.kernel.proofs.ReleaseLaws.{Picks, pick-end, pick-on, pick-start}
 use Rattle.kernel.proofs.release.picked.Tie as tie
-use Rattle.kernel.proofs.release.picked.Reads as reads
-use Rattle.kernel.proofs.release.picked.Lts as lts
-use Rattle.kernel.proofs.release.mark.Reads as mark-reads
 
 abbrev Inv-loop : tie.InvT-loop
-Inv-loop bytes b ps₀ i₀ ps i = ?
+Inv-loop bytes b ps₀ i₀ ps i = (i ≤ processLimit) × (length ps ≡ processLimit) × Picks b bytes i ps
 
 abbrev μ-loop : tie.MeasureT-loop
-μ-loop bytes b ps₀ i₀ ps i = ?
+μ-loop bytes b ps₀ i₀ ps i = processLimit - i
 
--- src/release.rt:42:5
 loop-holds : tie.Need-loop-holds Inv-loop μ-loop
-loop-holds c = ?
+loop-holds c = (search needs, search needs, pick-start _ _ _)
 
--- src/release.rt:43:17
 mark-requires : tie.Need-mark-requires Inv-loop μ-loop
-mark-requires c κs = ?
+mark-requires c κs = search needs
 
--- src/release.rt:43:9
 array-write-ps : tie.Need-array-write-ps Inv-loop μ-loop
-array-write-ps c = ?
+array-write-ps c = search needs
 
--- src/release.rt:44:13
 add-i : tie.Need-add-i Inv-loop μ-loop
-add-i c = ?
+add-i c = search needs
 
--- src/release.rt:42:5
 loop-less : tie.Need-loop-less Inv-loop μ-loop
-loop-less c = ?
+loop-less c = search needs
 
--- src/release.rt:42:5
 loop-again : tie.Need-loop-again Inv-loop μ-loop
-loop-again c = ?
+loop-again c = (search needs, search needs, pick-on _ _ _ _ _ (search needs) (search needs) (c .mark .ensures) (c .before .before .loop .inv .2))
 
--- src/release.rt:36:1
 returns : tie.Need-returns Inv-loop μ-loop
-returns c = ?
+returns c = pick-end _ _ _ _ (search needs) (search needs) (c .before .loop .inv .2)
 
 pub picked-spec : {M : Type 1} → statement M
 picked-spec =

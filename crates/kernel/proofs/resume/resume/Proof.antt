@@ -1,42 +1,35 @@
+use mathlib.Core.Path.{refl}
 use borrow.Author.Needs.{needs}
+use Rattle.rules.specs.Calls.{Resume}
+use Rattle.tables.specs.Limits.{processLimit}
 use Rattle.kernel.proofs.resume.resume.Statement.{statement}
+use Rattle.kernel.proofs.Arguments.{number, passed}
+use Rattle.kernel.proofs.CallLaws.{numbered-goes, process-outside}
 use Rattle.kernel.proofs.resume.resume.Tie as tie
-use Rattle.kernel.proofs.resume.resume.Reads as reads
-use Rattle.kernel.proofs.resume.resume.Lts as lts
-use Rattle.kernel.proofs.index.index_below.Reads as index-below-reads
-use Rattle.kernel.proofs.resume.resume_at.Reads as resume-at-reads
 
--- src/resume.rt:41:32
 cast-index-below : tie.Need-cast-index-below
 cast-index-below c = search needs
 
--- src/resume.rt:41:9
 index-below-requires : tie.Need-index-below-requires
 index-below-requires c κs = search needs
 
--- src/resume.rt:43:27
 enum-told : tie.Need-enum-told
 enum-told c = search needs
 
--- src/resume.rt:44:19
 enum-known-index : tie.Need-enum-known-index
 enum-known-index c = search needs
 
--- src/resume.rt:44:25
 resume-at-requires : tie.Need-resume-at-requires
-resume-at-requires c κs = ?
+resume-at-requires c κs = (search needs, number (c .before .before .before .before .before .before .args .a) processLimit _ (passed _ _ _ _ (c .before .before .before .before .before .before .fits .a) (c .before .before .before .before .index-below .ensures) (c .before .before .index .given .1)) .1)
 
--- src/resume.rt:37:1
 returns : tie.Need-returns
-returns c = ?
+returns c = process-outside (Resume (c .before .before .before .before .args .a)) (c .before .before .before .before .args .a) _ (λ t. refl) (passed _ _ _ _ (c .before .before .before .before .fits .a) (c .before .before .index-below .ensures) (c .enum-told .given .1))
 
--- src/resume.rt:37:1
 same-length : tie.Need-same-length
 same-length c = search needs
 
--- src/resume.rt:37:1
 returns-2 : tie.Need-returns-2
-returns-2 c = ?
+returns-2 c = numbered-goes Resume (c .before .before .before .before .before .before .before .before .before .args .a) _ _ _ _ _ (passed _ _ _ _ (c .before .before .before .before .before .before .before .before .before .fits .a) (c .before .before .before .before .before .before .before .index-below .ensures) (c .before .before .before .before .before .index .given .1)) (c .before .before .resume-at .ensures)
 
 pub resume-spec : {M : Type 1} → statement M
 resume-spec =

@@ -1,87 +1,68 @@
+use mathlib.Core.Path.{refl}
+use mir.Syntax.{w32}
+use mir.ValLaws.{toZ-pos}
 use borrow.Author.Needs.{needs}
+use Rattle.tables.specs.declared.State.the-variants.{Current, Free, Ready}
 use Rattle.kernel.proofs.resume.resume_at.Statement.{statement}
+use Rattle.kernel.proofs.ProcessLaws.{resume-done, resume-refused}
 use Rattle.kernel.proofs.resume.resume_at.Tie as tie
-use Rattle.kernel.proofs.resume.resume_at.Reads as reads
-use Rattle.kernel.proofs.resume.resume_at.Lts as lts
-use Rattle.kernel.proofs.schedule.make_ready.Reads as make-ready-reads
-use Rattle.kernel.proofs.schedule.reschedule.Reads as reschedule-reads
-use Rattle.layout.proofs.fields.process.Reads as process-reads
 
--- src/resume.rt:22:9
 process-requires : tie.Need-process-requires
 process-requires c κs = search needs
 
--- src/resume.rt:25:24
 enum-told : tie.Need-enum-told
 enum-told c = search needs
 
--- src/resume.rt:26:27
 enum-told-2 : tie.Need-enum-told-2
 enum-told-2 c = search needs
 
--- src/resume.rt:27:25
 enum-told-3 : tie.Need-enum-told-3
 enum-told-3 c = search needs
 
--- src/resume.rt:29:24
 enum-told-4 : tie.Need-enum-told-4
 enum-told-4 c = search needs
 
--- src/resume.rt:29:13
 make-ready-requires : tie.Need-make-ready-requires
 make-ready-requires c κs = search needs
 
--- src/resume.rt:30:13
 reschedule-requires : tie.Need-reschedule-requires
 reschedule-requires c κs = search needs
 
--- src/resume.rt:31:26
 cast-t13 : tie.Need-cast-t13
 cast-t13 c = search needs
 
--- src/resume.rt:33:30
 enum-told-5 : tie.Need-enum-told-5
 enum-told-5 c = search needs
 
--- src/resume.rt:18:1
 same-length : tie.Need-same-length
 same-length c = search needs
 
--- src/resume.rt:18:1
 returns : tie.Need-returns
-returns c = ?
+returns c = resume-refused _ (search needs) _ _ (c .before .before .process .ensures) Free 7 (λ t. refl) (c .enum-told .given .1)
 
--- src/resume.rt:18:1
 same-length-2 : tie.Need-same-length-2
 same-length-2 c = search needs
 
--- src/resume.rt:18:1
 returns-2 : tie.Need-returns-2
-returns-2 c = ?
+returns-2 c = resume-refused _ (search needs) _ _ (c .before .before .process .ensures) Current 9 (λ t. refl) (c .enum-told2 .given .1)
 
--- src/resume.rt:18:1
 same-length-3 : tie.Need-same-length-3
 same-length-3 c = search needs
 
--- src/resume.rt:18:1
 returns-3 : tie.Need-returns-3
-returns-3 c = ?
+returns-3 c = resume-refused _ (search needs) _ _ (c .before .before .process .ensures) Ready 9 (λ t. refl) (c .enum-told3 .given .1)
 
--- src/resume.rt:18:1
 same-length-4 : tie.Need-same-length-4
 same-length-4 c = search needs
 
--- src/resume.rt:18:1
 returns-4 : tie.Need-returns-4
-returns-4 c = ?
+returns-4 c = resume-done _ (search needs) _ _ (c .before .before .before .before .before .before .before .before .before .before .before .process .ensures) _ _ _ (toZ-pos w32 (c .before .before .before .before .before .before .before .before .before .before .before .process .result .priority) (search needs)) (c .before .before .before .before .before .before .before .before .before .enum-told4 .given .1) (c .before .before .before .before .before .before .before .make-ready .ensures) (c .before .before .before .reschedule .ensures)
 
--- src/resume.rt:18:1
 same-length-5 : tie.Need-same-length-5
 same-length-5 c = search needs
 
--- src/resume.rt:18:1
 returns-5 : tie.Need-returns-5
-returns-5 c = ?
+returns-5 c = resume-refused _ (search needs) _ _ (c .before .before .process .ensures) _ 9 (λ t. refl) (c .enum-told5 .given .1)
 
 pub resume-at-spec : {M : Type 1} → statement M
 resume-at-spec =

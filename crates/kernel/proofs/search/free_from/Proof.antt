@@ -1,8 +1,7 @@
 use Prim.Native.Nat.{_-_}
-use mathlib.Core.Path.{refl}
 use borrow.Author.Needs.{needs}
 use Rattle.kernel.proofs.search.free_from.Statement.{statement}
-use Rattle.kernel.proofs.SearchLaws.{Seeks, seek-end, seek-here, seek-on}
+use Rattle.kernel.proofs.SearchLaws.{Seeks, seek-end, seek-here, seek-on, seek-start}
 use Rattle.kernel.proofs.search.free_from.Tie as tie
 
 abbrev Inv-loop : tie.InvT-loop
@@ -12,7 +11,7 @@ abbrev μ-loop : tie.MeasureT-loop
 μ-loop bytes at limit from i₀ i = limit - i
 
 loop-holds : tie.Need-loop-holds Inv-loop μ-loop
-loop-holds c = refl
+loop-holds c = seek-start _ _ _ _
 
 add-if1 : tie.Need-add-if1 Inv-loop μ-loop
 add-if1 c = search needs

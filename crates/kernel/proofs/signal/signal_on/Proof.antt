@@ -1,76 +1,57 @@
+use mathlib.Core.Path.{_∙_, sym}
+use mir.Syntax.{w32}
+use mir.ValLaws.{toZ-ofZ}
 use borrow.Author.Needs.{needs}
+use Rattle.rules.proofs.Does.{used}
 use Rattle.kernel.proofs.signal.signal_on.Statement.{statement}
+use Rattle.kernel.proofs.CallLaws.{told-as}
+use Rattle.kernel.proofs.WaitSignalLaws.{signal-5, signal-free, signal-go}
 use Rattle.kernel.proofs.signal.signal_on.Tie as tie
-use Rattle.kernel.proofs.signal.signal_on.Reads as reads
-use Rattle.kernel.proofs.signal.signal_on.Lts as lts
-use Rattle.kernel.proofs.counts.below_zero.Reads as below-zero-reads
-use Rattle.kernel.proofs.counts.is_full.Reads as is-full-reads
-use Rattle.kernel.proofs.counts.raised.Reads as raised-reads
-use Rattle.kernel.proofs.row.find.Reads as find-reads
-use Rattle.kernel.proofs.schedule.make_ready.Reads as make-ready-reads
-use Rattle.kernel.proofs.schedule.reschedule.Reads as reschedule-reads
-use Rattle.layout.proofs.fields.count.Reads as count-reads
-use Rattle.layout.proofs.fields.put_count.Reads as put-count-reads
 
--- src/signal.rt:29:9
 count-requires : tie.Need-count-requires
 count-requires c κs = search needs
 
--- src/signal.rt:30:8
 is-full-requires : tie.Need-is-full-requires
 is-full-requires c κs = search needs
 
--- src/signal.rt:31:9
 same-length : tie.Need-same-length
 same-length c = search needs
 
--- src/signal.rt:31:9
 returns : tie.Need-returns
-returns c = ?
+returns c = λ used. signal-5 _ (search needs) _ _ (told-as _ _ _ _ (toZ-ofZ w32 _ (record { sfits = c .before .before .count .ok })) (c .before .before .count .ensures)) used (sym (c .before .is-full .ensures) ∙ c .if1 .taken)
 
--- src/signal.rt:33:25
 raised-requires : tie.Need-raised-requires
 raised-requires c κs = search needs
 
--- src/signal.rt:33:5
 put-count-requires : tie.Need-put-count-requires
 put-count-requires c κs = search needs
 
--- src/signal.rt:34:8
 below-zero-requires : tie.Need-below-zero-requires
 below-zero-requires c κs = search needs
 
--- src/signal.rt:35:29
 add-find : tie.Need-add-find
 add-find c = search needs
 
--- src/signal.rt:35:13
 find-requires : tie.Need-find-requires
 find-requires c κs = search needs
 
--- src/signal.rt:36:9
 make-ready-requires : tie.Need-make-ready-requires
 make-ready-requires c κs = search needs
 
--- src/signal.rt:37:9
 reschedule-requires : tie.Need-reschedule-requires
 reschedule-requires c κs = search needs
 
--- src/signal.rt:38:9
 same-length-2 : tie.Need-same-length-2
 same-length-2 c = search needs
 
--- src/signal.rt:38:9
 returns-2 : tie.Need-returns-2
-returns-2 c = ?
+returns-2 c = λ used. signal-free _ (search needs) _ _ (told-as _ _ _ _ (toZ-ofZ w32 _ (record { sfits = c .before .before .before .before .before .before .before .before .before .before .before .before .before .before .before .before .before .before .before .count .ok })) (c .before .before .before .before .before .before .before .before .before .before .before .before .before .before .before .before .before .before .before .count .ensures)) used (sym (c .before .before .before .before .before .before .before .before .before .before .before .before .before .before .before .before .before .before .is-full .ensures) ∙ c .before .before .before .before .before .before .before .before .before .before .before .before .before .before .before .before .before .if1 .left) _ (toZ-ofZ w32 _ (record { sfits = c .before .before .before .before .before .before .before .before .before .before .before .before .before .before .before .raised .ok }) ∙ c .before .before .before .before .before .before .before .before .before .before .before .before .before .before .before .raised .ensures) _ (c .before .before .before .before .before .before .before .before .before .before .before .before .before .before .put-count .ensures) _ _ _ (sym (c .before .before .before .before .before .before .before .before .before .before .before .below-zero .ensures) ∙ c .before .before .before .before .before .before .before .before .before .before .if2 .taken) (c .before .before .before .before .before .before .before .before .find .ensures) (c .before .before .before .before .before .before .make-ready .ensures) (c .before .before .reschedule .ensures)
 
--- src/signal.rt:25:1
 same-length-3 : tie.Need-same-length-3
 same-length-3 c = search needs
 
--- src/signal.rt:25:1
 returns-3 : tie.Need-returns-3
-returns-3 c = ?
+returns-3 c = λ used. signal-go _ (search needs) _ _ (told-as _ _ _ _ (toZ-ofZ w32 _ (record { sfits = c .before .before .before .before .before .before .before .before .before .count .ok })) (c .before .before .before .before .before .before .before .before .before .count .ensures)) used (sym (c .before .before .before .before .before .before .before .before .is-full .ensures) ∙ c .before .before .before .before .before .before .before .if1 .left) _ (toZ-ofZ w32 _ (record { sfits = c .before .before .before .before .before .raised .ok }) ∙ c .before .before .before .before .before .raised .ensures) _ (c .before .before .before .before .put-count .ensures) (sym (c .before .below-zero .ensures) ∙ c .if2 .left)
 
 pub signal-on-spec : {M : Type 1} → statement M
 signal-on-spec =

@@ -1,99 +1,80 @@
+use mathlib.Core.Path.{refl}
+use lib.IntN.{pos}
+use mir.Syntax.{w32}
+use mir.ValLaws.{toZ-pos}
 use borrow.Author.Needs.{needs}
+use Rattle.rules.specs.Calls.{Suspend}
+use Rattle.tables.specs.declared.State.the-variants.{Free, Suspended}
 use Rattle.kernel.proofs.suspend.suspend_at.Statement.{statement}
+use Rattle.kernel.proofs.CallLaws.{process-null}
+use Rattle.kernel.proofs.ProcessLaws.{suspend-current, suspend-ready, suspend-refused}
 use Rattle.kernel.proofs.suspend.suspend_at.Tie as tie
-use Rattle.kernel.proofs.suspend.suspend_at.Reads as reads
-use Rattle.kernel.proofs.suspend.suspend_at.Lts as lts
-use Rattle.kernel.proofs.schedule.reschedule.Reads as reschedule-reads
-use Rattle.layout.proofs.fields.process.Reads as process-reads
-use Rattle.layout.proofs.fields.put_state.Reads as put-state-reads
 
--- src/suspend.rt:23:9
 returns : tie.Need-returns
-returns c = ?
+returns c = process-null (Suspend (pos (c .before .before .args .p))) _ _ (λ t. refl) (search needs) (c .if1 .taken)
 
--- src/suspend.rt:25:9
 process-requires : tie.Need-process-requires
 process-requires c κs = search needs
 
--- src/suspend.rt:28:24
 enum-told : tie.Need-enum-told
 enum-told c = search needs
 
--- src/suspend.rt:30:23
 enum-told-2 : tie.Need-enum-told-2
 enum-told-2 c = search needs
 
--- src/suspend.rt:30:13
 put-state-requires : tie.Need-put-state-requires
 put-state-requires c κs = search needs
 
--- src/suspend.rt:31:13
 reschedule-requires : tie.Need-reschedule-requires
 reschedule-requires c κs = search needs
 
--- src/suspend.rt:32:26
 cast-t15 : tie.Need-cast-t15
 cast-t15 c = search needs
 
--- src/suspend.rt:35:23
 enum-told-3 : tie.Need-enum-told-3
 enum-told-3 c = search needs
 
--- src/suspend.rt:35:13
 put-state-requires-2 : tie.Need-put-state-requires-2
 put-state-requires-2 c κs = search needs
 
--- src/suspend.rt:36:26
 cast-t20 : tie.Need-cast-t20
 cast-t20 c = search needs
 
--- src/suspend.rt:38:29
 enum-told-4 : tie.Need-enum-told-4
 enum-told-4 c = search needs
 
--- src/suspend.rt:39:30
 enum-told-5 : tie.Need-enum-told-5
 enum-told-5 c = search needs
 
--- src/suspend.rt:18:1
 same-length : tie.Need-same-length
 same-length c = search needs
 
--- src/suspend.rt:18:1
 returns-2 : tie.Need-returns-2
-returns-2 c = ?
+returns-2 c = suspend-refused _ (search needs) _ _ (c .before .before .process .ensures) (c .before .before .before .before .if1 .left) Free 7 (λ t. refl) (c .enum-told .given .1)
 
--- src/suspend.rt:18:1
 same-length-2 : tie.Need-same-length-2
 same-length-2 c = search needs
 
--- src/suspend.rt:18:1
 returns-3 : tie.Need-returns-3
-returns-3 c = ?
+returns-3 c = suspend-current _ (search needs) _ _ (c .before .before .before .before .before .before .before .before .before .before .before .process .ensures) (c .before .before .before .before .before .before .before .before .before .before .before .before .before .if1 .left) _ (c .before .before .before .before .before .before .before .put-state .ensures) _ (toZ-pos w32 (c .before .before .before .before .before .before .before .before .before .before .before .process .result .priority) (search needs)) _ (c .before .before .before .before .before .before .before .before .before .enum-told2 .given .1) (c .before .before .before .reschedule .ensures)
 
--- src/suspend.rt:18:1
 same-length-3 : tie.Need-same-length-3
 same-length-3 c = search needs
 
--- src/suspend.rt:18:1
 returns-4 : tie.Need-returns-4
-returns-4 c = ?
+returns-4 c = suspend-ready _ (search needs) _ _ (c .before .before .before .before .before .before .before .process .ensures) (c .before .before .before .before .before .before .before .before .before .if1 .left) _ (c .before .before .before .put-state2 .ensures) _ (toZ-pos w32 (c .before .before .before .before .before .before .before .process .result .priority) (search needs)) (c .before .before .before .before .before .enum-told3 .given .1)
 
--- src/suspend.rt:18:1
 same-length-4 : tie.Need-same-length-4
 same-length-4 c = search needs
 
--- src/suspend.rt:18:1
 returns-5 : tie.Need-returns-5
-returns-5 c = ?
+returns-5 c = suspend-refused _ (search needs) _ _ (c .before .before .process .ensures) (c .before .before .before .before .if1 .left) Suspended 9 (λ t. refl) (c .enum-told4 .given .1)
 
--- src/suspend.rt:18:1
 same-length-5 : tie.Need-same-length-5
 same-length-5 c = search needs
 
--- src/suspend.rt:18:1
 returns-6 : tie.Need-returns-6
-returns-6 c = ?
+returns-6 c = suspend-refused _ (search needs) _ _ (c .before .before .process .ensures) (c .before .before .before .before .if1 .left) _ 9 (λ t. refl) (c .enum-told5 .given .1)
 
 pub suspend-at-spec : {M : Type 1} → statement M
 suspend-at-spec =
