@@ -1,18 +1,18 @@
 -- Laws of a search that goes round: what it finds, and what it passed over. Assumes nothing.
-use Prim.Native.Nat.{ℕ, zero, suc, _+_, _≤_, _<_, _-_}
+use Prim.Native.Nat.{_+_, _-_, _<_, _≤_, suc, zero, ℕ}
 use native.Mathlib.Omega.{arith}
-use mathlib.Core.Bool.{Bool, true, false, true≢false}
-use mathlib.Core.List.{List, [], _∷_, _++_}
-use mathlib.Core.Path.{_≡_, refl, sym, ap, subst, _∙_}
+use mathlib.Core.Bool.{Bool, false, true, true≢false}
+use mathlib.Core.List.{List, [], _++_, _∷_, append-nil}
+use mathlib.Core.Path.{_∙_, _≡_, ap, refl, subst, sym}
 use lib.Dec.{eqb}
-use lib.ListN.{length, getD, length-append, List·getD-append}
+use lib.ListN.{List·getD-append, getD, length, length-append}
 use lib.Seq.{getD-append-add}
-use borrow.Author.Tests.{lt-ltb, le-ltb, eqb-true}
-use Rattle.lists.specs.Lists.{if_then_else_, filter, times, isEmpty, firstOr, first}
-use Rattle.lists.specs.Numbers.{listed, countUp, roundFrom, onward, FirstFrom}
-use Rattle.lists.proofs.Bools.{below?}
-use Rattle.lists.proofs.NumberLaws.{listed-length, listed-from, listed-at}
-use Rattle.lists.proofs.Rows.{times-at}
+use borrow.Author.Tests.{eqb-true, le-ltb, lt-ltb}
+use Rattle.lists.specs.Lists.{filter, first, firstOr, if_then_else_, isEmpty, times}
+use Rattle.lists.specs.Numbers.{FirstFrom, countUp, listed, onward, roundFrom}
+use Rattle.lists.proofs.Bools.{below?, split}
+use Rattle.lists.proofs.NumberLaws.{listed-at, listed-from, listed-length}
+use Rattle.lists.proofs.Rows.{times-at, within}
 
 pub in-countUp : (x k n : ℕ) → 1 ≤ times x (countUp k n) → (k ≤ x) × (x < k + n)
 unfolding times listed
@@ -39,6 +39,50 @@ in-round x size k h a =
     below? 0 (times x (countUp 0 k))
     (λ c. let d : (0 ≤ x) × (x < 0 + k) = in-countUp x 0 k c in omega arith)
     (λ c. let d : (k ≤ x) × (x < k + (size - k)) = in-countUp x k (size - k) (omega arith) in omega arith)
+
+-- Two lists searched as one
+
+pub filter-append : (f : ℕ → Bool) (xs ys : List ℕ) → filter f (xs ++ ys) ≡ filter f xs ++ filter f ys
+unfolding filter
+filter-append f [] ys = refl
+filter-append f (x ∷ xs) ys = split (f x) (λ e. rw (e, filter-append f xs ys) refl) (λ e. rw (e, filter-append f xs ys) refl)
+
+-- the numbers from k on are some of them, and those from there on
+pub countUp-append : (k m n j l : ℕ) → j ≡ k + m → l ≡ m + n → countUp k l ≡ countUp k m ++ countUp j n
+unfolding listed
+countUp-append k zero n j l hj hl =
+    let a : j ≡ k = omega arith in
+    let b : l ≡ n = omega arith in
+    rw (a, b) refl
+countUp-append k (suc m) n j l hj hl =
+    let a : l ≡ suc (m + n) = omega arith in
+    rw a (ap (λ (z : List ℕ). k ∷ z) (countUp-append (suc k) m n j (m + n) (omega arith) refl))
+
+-- what goes round finds first what it finds from k on
+pub round-first : (f : ℕ → Bool) (size k : ℕ) → firstOr size (filter f (countUp k (size - k))) < size → firstOr size (filter f (roundFrom size k)) ≡ firstOr size (filter f (countUp k (size - k)))
+unfolding roundFrom firstOr
+round-first f size k h = rw (filter-append f (countUp k (size - k)) (countUp 0 k)) (go (filter f (countUp k (size - k))) h)
+  where
+    go : (xs : List ℕ) → firstOr size xs < size → firstOr size (xs ++ filter f (countUp 0 k)) ≡ firstOr size xs
+    go [] l = absurd (omega arith)
+    go (x ∷ xs) l = refl
+
+-- and where that is nothing, what it finds from 0 on
+pub round-again : (f : ℕ → Bool) (size k : ℕ) → k ≤ size → filter f (countUp k (size - k)) ≡ [] → filter f (roundFrom size k) ≡ filter f (countUp 0 size)
+unfolding roundFrom
+round-again f size k h e =
+    rw (filter-append f (countUp k (size - k)) (countUp 0 k), e)
+    (sym (rw (countUp-append 0 k (size - k) k size (omega arith) (omega arith), filter-append f (countUp 0 k) (countUp k (size - k)), e) (append-nil (filter f (countUp 0 k)))))
+
+-- every number of a round is below its size
+pub round-below : (size k i : ℕ) → k < size → i < length (roundFrom size k) → getD (roundFrom size k) i 0 < size
+round-below size k i h l = in-round (getD (roundFrom size k) i 0) size k h (times-at (roundFrom size k) i l)
+
+-- two tests that agree on the entries of a list pick the same
+pub filter-at : (f g : ℕ → Bool) (xs : List ℕ) → ((i : ℕ) → i < length xs → f (getD xs i 0) ≡ g (getD xs i 0)) → filter f xs ≡ filter g xs
+unfolding filter
+filter-at f g [] h = refl
+filter-at f g (x ∷ xs) h = rw (h 0 (omega arith), filter-at f g xs (λ i l. h (suc i) (omega arith))) refl
 
 -- What is found
 

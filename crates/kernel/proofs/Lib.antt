@@ -1,0 +1,13 @@
+pub mod CountLaws
+pub mod Arguments
+pub mod Found
+pub mod SearchLaws
+pub mod Moves
+pub mod Spots
+pub mod ScheduleLaws
+pub mod CallLaws
+pub mod WaitSignalLaws
+pub mod ReleaseLaws
+pub mod ProcessLaws
+pub mod MakeLaws
+pub mod EnterLaws

@@ -1,0 +1,28 @@
+-- An argument as the number of an entry.
+use Prim.Native.Nat.{_<_, ℕ}
+use mathlib.Core.Bool.{true}
+use mathlib.Core.List.{List, _∷_}
+use mathlib.Core.Path.{_≡_}
+use lib.Dec.{ltb}
+use lib.IntN.{negsuc, pos, ℤ}
+use Rattle.layout.specs.Stands.{Stands, Tells}
+use Rattle.lists.specs.Lists.{if_then_else_}
+use Rattle.rules.specs.Answers.{Check, refused, unless}
+use Rattle.rules.specs.Calls.{noSemaphore, notUsed}
+use Rattle.rules.specs.declared.Outcome.{Outcome}
+use Rattle.tables.specs.Limits.{semaphoreLimit}
+use Rattle.tables.specs.Readers.{isUsed}
+use Rattle.tables.specs.declared.Tables.{Tables}
+use Rattle.kernel.specs.declared.index.Index.{Index}
+use Rattle.kernel.specs.declared.index.Index.the-variants.{At, Outside}
+use Rattle.kernel.specs.declared.target.Target.{Target}
+use Rattle.kernel.specs.declared.target.Target.the-variants.{Refusal, Used}
+
+abbrev pub indexBelow : ℤ → ℕ → Index
+indexBelow (pos n) limit = if ltb n limit then At n else Outside
+indexBelow (negsuc n) limit = Outside
+
+-- the semaphore that a call goes on with, or the refusal that its first two checks give, whatever else the call checks and does
+abbrev pub Chosen : ℤ → List ℕ → Target → Type 0
+Chosen a bs (Used s) = (a ≡ pos s) × (s < semaphoreLimit) × Tells (λ t. isUsed t s) bs true
+Chosen a bs (Refusal n) = (t : Tables) → Stands t bs → (cs : List Check) (o : Outcome) → unless t (noSemaphore a ∷ notUsed t a ∷ cs) o ≡ refused n t

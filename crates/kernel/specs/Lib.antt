@@ -1,0 +1,6 @@
+pub mod Meets
+pub mod Arguments
+pub mod Counts
+pub mod Row
+pub mod Release
+pub mod Search
