@@ -1,0 +1,38 @@
+// One call on typed tables, handed over and handed back: for callers in Rattle.
+use kernel::enter;
+use layout::decode::decode;
+use layout::encode::encode;
+use layout::offsets::SIZE;
+use rules::Answer;
+use rules::Outcome;
+use rules::Reply;
+use soundness::check::is_sound;
+use soundness::running::current;
+use tables::Tables;
+ghost use mathlib.Core.Path.{_≡_};
+ghost use Rattle.rules.specs.Enter.{enter};
+
+pub fn call(tables: Tables, number: u8, a: i32, b: i32) -> Reply
+    ensures { λ r. ⌜ r ≡ enter tables number a b ⌝ }
+{
+    let mut bytes = [0u8; SIZE];
+    encode(&mut bytes, tables);
+    if !is_sound(&bytes) {
+        let refused = Outcome {
+            tables,
+            answer: Answer::Refused(15),
+        };
+        return Reply {
+            outcome: refused,
+            running: 255,
+        };
+    }
+    let answer = enter::call(&mut bytes, number, a, b);
+    let running = current(&bytes) as u8;
+    let left = decode(&bytes);
+    let outcome = Outcome {
+        tables: left,
+        answer,
+    };
+    Reply { outcome, running }
+}
