@@ -4,9 +4,12 @@
 use Prim.Native.Nat.{_<_, ℕ}
 use mathlib.Core.Bool.{false, true}
 use mathlib.Core.List.{List}
-use mathlib.Core.Path.{_∙_, _≡_, ap, sym}
+use mathlib.Core.Path.{_∙_, _≡_, ap, subst, sym}
 use lib.IntN.{ℤ}
 use lib.ListN.{getD, length}
+use mir.Syntax.{w32}
+use mir.Val.{SFits, ofZ, toZ}
+use mir.ValLaws.{toZ-ofZ}
 use Rattle.layout.specs.Bytes.{fromBytes, toBytes, wellFormed}
 use Rattle.layout.specs.Offsets.{size}
 use Rattle.layout.specs.Stands.{Does, Stands}
@@ -21,6 +24,7 @@ use Rattle.tables.specs.Readers.{currentOf}
 use Rattle.tables.specs.States.{isCurrent}
 use Rattle.tables.specs.Test.{soundNow}
 use Rattle.tables.specs.declared.Tables.{Tables}
+use Rattle.kernel.specs.Meets.{Meets}
 use Rattle.layout.proofs.Image.{bytes-back, same-bytes, stands-is, stands-made, stands-read}
 use Rattle.lists.proofs.Bools.{split}
 use Rattle.rules.proofs.Kept.{sound-numbered}
@@ -44,7 +48,7 @@ module _ (bs : List ℕ) (n : ℕ) (a b : ℤ) (g : good bs ≡ false) where
 -- Good bytes are called by the rules
 
 module _ (bs after : List ℕ) (n : ℕ) (a b : ℤ) (r : Answer) (byte : (i : ℕ) → getD bs i 0 < 256) (g : good bs ≡ true)
-    (d : Does (λ t. numbered t n a b .tables) (λ t. numbered t n a b .answer) bs after r) where
+    (d : Meets (λ t. numbered t n a b) bs after r) where
   abbrev t : Tables
   t = fromBytes bs
 
@@ -52,7 +56,7 @@ module _ (bs after : List ℕ) (n : ℕ) (a b : ℤ) (r : Answer) (byte : (i : �
   o = numbered t n a b
 
   did : (r ≡ o .answer) × Stands (o .tables) after
-  unfolding Does
+  unfolding Meets Does
   did = d t (stands-read bs byte (good-formed bs g)) (good-sound bs g)
 
   entered : (enter t n a b .outcome ≡ o) × (enter t n a b .running ≡ currentOf (o .tables))
@@ -82,3 +86,9 @@ boot-determined bs r r′ x x′ p q = (p .0 ∙ sym (q .0), p .1 ∙ sym (q .1)
 
 pub check-determined : (bs : List ℕ) (r r′ : ℕ) → r ≡ checkAnswer bs → r′ ≡ checkAnswer bs → r ≡ r′
 check-determined bs r r′ p q = p ∙ sym q
+
+-- Arguments that were handed on, read back from their bits
+pub handed-on : (n : ℕ) (a b : ℤ) (bs after : List ℕ) (r : Answer) → SFits w32 a → SFits w32 b → Meets (λ t. numbered t n (toZ w32 (ofZ w32 a)) (toZ w32 (ofZ w32 b))) bs after r → Meets (λ t. numbered t n a b) bs after r
+handed-on n a b bs after r fa fb d =
+    subst (λ (z : ℤ). Meets (λ t. numbered t n a z) bs after r) (toZ-ofZ w32 b fb)
+    (subst (λ (z : ℤ). Meets (λ t. numbered t n z (toZ w32 (ofZ w32 b))) bs after r) (toZ-ofZ w32 a fa) d)

@@ -1,4 +1,4 @@
 pub mod Standing
 pub mod Entry
-pub mod Value
+pub mod ByValue
 pub mod Sessions

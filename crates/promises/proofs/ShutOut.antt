@@ -16,10 +16,10 @@ use Rattle.rules.specs.Calls.{step}
 use Rattle.rules.specs.Enter.{numbered}
 use Rattle.rules.proofs.Kept.{sound-numbered}
 use Rattle.promises.specs.Record.{Request, made, after}
-use Rattle.promises.specs.Kernels.{Kernel, Meets, RefusesAll, AnswersOne, ChangesNothing, MakesUpCount, Remembering, left, MeetsSessions, OnlyFirst}
+use Rattle.promises.specs.Kernels.{Kernel, Follows, RefusesAll, AnswersOne, ChangesNothing, MakesUpCount, Remembering, left, FollowsSessions, OnlyFirst}
 
 -- any two that meet it do the same on sound tables
-pub determined : (k l : Kernel) → Meets k → Meets l → (t : Tables) → Sound t → (n : ℕ) (a b : ℤ) → k t n a b ≡ l t n a b
+pub determined : (k l : Kernel) → Follows k → Follows l → (t : Tables) → Sound t → (n : ℕ) (a b : ℤ) → k t n a b ≡ l t n a b
 determined k l h g t S n a b = h t S n a b ∙ sym (g t S n a b)
 
 -- Calls that tell apart
@@ -43,20 +43,20 @@ cursor-moves : with-one (pos 0) .«next_semaphore» ≡ 1
 unfolding numbered step boot filter isEmpty firstOr listed roundFrom
 cursor-moves = refl
 
-pub refuses-all : (k : Kernel) → RefusesAll k → Meets k → ⊥
+pub refuses-all : (k : Kernel) → RefusesAll k → Follows k → ⊥
 refuses-all k r h =
     let w = r boot 10 (pos 0) (pos 0) in
     let e : Refused (w .0) ≡ Done (pos 1) = sym (w .1) ∙ ap (λ (o : Outcome). o .answer) (h boot sound-boot 10 (pos 0) (pos 0)) ∙ yield-done in
     let z : _≡_ {A = ℕ} 0 1 = cc in
     omega arith
 
-pub answers-one : (k : Kernel) → AnswersOne k → Meets k → ⊥
+pub answers-one : (k : Kernel) → AnswersOne k → Follows k → ⊥
 answers-one k r h =
     let e : Done (pos 1) ≡ Refused 13 = sym (r boot 0 (pos 0) (pos 0)) ∙ ap (λ (o : Outcome). o .answer) (h boot sound-boot 0 (pos 0) (pos 0)) ∙ zero-refused in
     let z : _≡_ {A = ℕ} 0 1 = cc in
     omega arith
 
-pub changes-nothing : (k : Kernel) → ChangesNothing k → Meets k → ⊥
+pub changes-nothing : (k : Kernel) → ChangesNothing k → Follows k → ⊥
 unfolding boot
 changes-nothing k r h =
     let e : boot .«next_semaphore» ≡ 1 = ap (λ (t : Tables). t .«next_semaphore») (sym (r boot 3 (pos 0) (pos 0)) ∙ ap (λ (o : Outcome). o .tables) (h boot sound-boot 3 (pos 0) (pos 0))) ∙ cursor-moves in
@@ -72,7 +72,7 @@ count-1 : numbered (with-one (pos 1)) 11 (pos 0) (pos 0) .answer ≡ Done (pos 1
 unfolding numbered step boot filter isEmpty firstOr listed roundFrom
 count-1 = refl
 
-pub makes-up-count : (k : Kernel) → MakesUpCount k → Meets k → ⊥
+pub makes-up-count : (k : Kernel) → MakesUpCount k → Follows k → ⊥
 makes-up-count k (v, r) h =
     let a : v (pos 0) ≡ Done (pos 0) = told (pos 0) ∙ count-0 in
     let b : v (pos 0) ≡ Done (pos 1) = told (pos 1) ∙ count-1 in
@@ -91,7 +91,7 @@ cursor-moves-on : made (after boot (makes-one ∷ [])) makes-one .tables .«next
 unfolding after numbered step boot filter isEmpty firstOr listed roundFrom
 cursor-moves-on = refl
 
-pub only-first : (k : Remembering) → OnlyFirst k → MeetsSessions k → ⊥
+pub only-first : (k : Remembering) → OnlyFirst k → FollowsSessions k → ⊥
 unfolding left after
 only-first k r h =
     let first-step : left k (makes-one ∷ []) ≡ after boot (makes-one ∷ []) = ap (λ (o : Outcome). o .tables) (h [] makes-one) in

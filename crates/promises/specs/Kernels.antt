@@ -17,8 +17,8 @@ abbrev pub Kernel : Type 0
 Kernel = Tables → ℕ → ℤ → ℤ → Outcome
 
 -- demand 2: on sound tables it does what the rules say, for every number and all arguments
-abbrev pub Meets : Kernel → Type 0
-Meets k = (t : Tables) → Sound t → (n : ℕ) (a b : ℤ) → k t n a b ≡ numbered t n a b
+abbrev pub Follows : Kernel → Type 0
+Follows k = (t : Tables) → Sound t → (n : ℕ) (a b : ℤ) → k t n a b ≡ numbered t n a b
 
 -- Wrong ones
 
@@ -46,8 +46,8 @@ left k [] = boot
 left k (q ∷ earlier) = k earlier (left k earlier) q .tables
 
 -- each step of every session from boot is the rules' step
-abbrev pub MeetsSessions : Remembering → Type 0
-MeetsSessions k = (earlier : List Request) (q : Request) → k earlier (left k earlier) q ≡ made (after boot earlier) q
+abbrev pub FollowsSessions : Remembering → Type 0
+FollowsSessions k = (earlier : List Request) (q : Request) → k earlier (left k earlier) q ≡ made (after boot earlier) q
 
 -- the first call of a session is run, and the rest are only answered
 abbrev pub OnlyFirst : Remembering → Type 0

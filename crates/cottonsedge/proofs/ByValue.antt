@@ -9,7 +9,7 @@ use lib.ListN.{length}
 use borrow.Author.Tests.{le-ltb}
 use Rattle.layout.specs.Bytes.{fromBytes, stateByte, toBytes}
 use Rattle.layout.specs.Offsets.{orderAt, statesAt}
-use Rattle.layout.specs.Stands.{Does, Held, Named}
+use Rattle.layout.specs.Stands.{Does, Held, Named, Stands}
 use Rattle.promises.specs.Demand.{running}
 use Rattle.promises.specs.Record.{after}
 use Rattle.rules.specs.Answers.{refused}
@@ -26,10 +26,12 @@ use Rattle.tables.specs.declared.State.{State}
 use Rattle.tables.specs.declared.State.the-variants.{Current, Free, Ready, Suspended, Waiting}
 use Rattle.tables.specs.declared.Tables.{Tables}
 use Rattle.tables.specs.Counts.{CountsFit}
+use Rattle.kernel.specs.Meets.{Meets}
 use Rattle.layout.proofs.Image.{byte-at, formed-place, formed-state, place-byte, stands-is, stands-made, state-byte, tables-back}
 use Rattle.lists.proofs.Bools.{below?, split}
 use Rattle.rules.proofs.Kept.{sound-numbered}
 use Rattle.tables.proofs.TestLaws.{checked-sound, sound-checked}
+use Rattle.tables.proofs.Sentences.{current-below}
 use Rattle.cottonsedge.proofs.Standing.{good-formed, good-sound, running-is, sound-good}
 
 module _ (t : Tables) (n : ℕ) (a b : ℤ) (slots : length (t .processes) ≡ processLimit) (entries : length (t .semaphores) ≡ semaphoreLimit) (places : length (t .order) ≡ processLimit) (fits : CountsFit t) where
@@ -60,11 +62,20 @@ module _ (t : Tables) (n : ℕ) (a b : ℤ) (slots : length (t .processes) ≡ p
     sound : Sound t
     sound = subst Sound (tables-back t held) (good-sound (toBytes t) g)
 
-    pub value-called : (after : List ℕ) (r : Answer) (c : ℕ) → Does (λ t. numbered t n a b .tables) (λ t. numbered t n a b .answer) (toBytes t) after r → c ≡ sumOf (fromBytes after) isCurrent
-        → record { outcome = record { tables = fromBytes after; answer = r }; running = c } ≡ enter t n a b
-    unfolding Does enter
-    value-called after r c d e =
-        let w = d t (stands-made t held) sound in
-        let k : fromBytes after ≡ numbered t n a b .tables = stands-is (numbered t n a b .tables) after (w .1) in
-        let q : c ≡ currentOf (numbered t n a b .tables) = e ∙ ap (λ (x : Tables). sumOf x isCurrent) k ∙ running-is (sound-numbered sound n a b) in
-        rw (k, w .0, q) (sym (rw (sound-checked sound)))
+    module _ (after : List ℕ) (r : Answer) (c : ℕ) (d : Meets (λ t. numbered t n a b) (toBytes t) after r) (e : c ≡ sumOf (fromBytes after) isCurrent) where
+      did : (r ≡ numbered t n a b .answer) × Stands (numbered t n a b .tables) after
+      unfolding Meets Does
+      did = d t (stands-made t held) sound
+
+      left : fromBytes after ≡ numbered t n a b .tables
+      left = stands-is (numbered t n a b .tables) after (did .1)
+
+      runs : c ≡ currentOf (numbered t n a b .tables)
+      runs = e ∙ ap (λ (x : Tables). sumOf x isCurrent) left ∙ running-is (sound-numbered sound n a b)
+
+      pub value-small : c < processLimit
+      value-small = subst (λ (p : ℕ). p < processLimit) (sym runs) (current-below (sound-numbered sound n a b))
+
+      pub value-called : record { outcome = record { tables = fromBytes after; answer = r }; running = c } ≡ enter t n a b
+      unfolding enter
+      value-called = rw (left, did .0, runs) (sym (rw (sound-checked sound)))
