@@ -1,9 +1,9 @@
 -- By the two cases of a line.
-use mathlib.Core.Path.{refl, sym, _∙_}
-use mir.ValLaws.{toZ-ofZ}
+use mathlib.Core.Path.{_∙_, refl, sym}
+use lib.IntN.{ℤ}
 use mir.Syntax.{w32}
 use mir.Val.{SFits}
-use lib.IntN.{ℤ}
+use mir.ValLaws.{toZ-ofZ}
 use borrow.Author.Needs.{needs}
 use Rattle.lines.proofs.answer.answer_line.Statement.{statement}
 use Rattle.lines.proofs.answer.answer_line.Tie as tie
@@ -23,35 +23,29 @@ enum-told c = search needs
 current-requires : tie.Need-current-requires
 current-requires c κs = search needs
 
-cast-result : tie.Need-cast-result
-cast-result c = search needs
+cast-pack : tie.Need-cast-pack
+cast-pack c = search needs
 
-add-result : tie.Need-add-result
-add-result c = search needs
+pack-requires : tie.Need-pack-requires
+pack-requires c κs = search needs
 
 same-length : tie.Need-same-length
 same-length c = search needs
 
 returns : tie.Need-returns
 returns c =
-    let at-cottonsedge-call = c .before .before in
-    let at-n = at-cottonsedge-call .before .before .before in
-    let at-read-line = at-n .before .before in
-    let told = at-n .n .given .0 in
+    let told = c .before .before .before .before .before .n .given .0 in
     let a : ℤ = told .1 .0 in
     let b : ℤ = told .1 .1 .0 in
     let fits-a : SFits w32 a = search needs in
     let fits-b : SFits w32 b = search needs in
-    rw (sym (at-read-line .read-line .ensures) ∙ at-n .n .given .1) (rw (toZ-ofZ w32 a fits-a, toZ-ofZ w32 b fits-b) at (at-cottonsedge-call .cottonsedge-call .ensures))
+    rw (sym (c .before .before .before .before .before .before .before .read-line .ensures) ∙ c .before .before .before .before .before .n .given .1) (rw (toZ-ofZ w32 a fits-a, toZ-ofZ w32 b fits-b) at (c .before .before .cottonsedge-call .ensures))
 
 same-length-2 : tie.Need-same-length-2
 same-length-2 c = search needs
 
 returns-2 : tie.Need-returns-2
-returns-2 c =
-    let at-enum-told = c .before .before in
-    let at-read-line = at-enum-told .before .before in
-    rw (sym (at-read-line .read-line .ensures) ∙ at-enum-told .enum-told .given .1, c .current .ensures) (refl, refl)
+returns-2 c = rw (sym (c .before .before .before .before .before .read-line .ensures) ∙ c .before .before .before .enum-told .given .1, c .pack .ensures, c .before .current .ensures) (refl, refl)
 
 pub answer-line-spec : {M : Type 1} → statement M
 answer-line-spec =
@@ -62,8 +56,8 @@ answer-line-spec =
     cottonsedge-call-requires
     enum-told
     current-requires
-    cast-result
-    add-result
+    cast-pack
+    pack-requires
     same-length
     returns
     same-length-2
