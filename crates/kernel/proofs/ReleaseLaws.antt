@@ -13,7 +13,6 @@ use borrow.Author.Tests.{eq-eqb, le-ltb, lt-ltb, ne-eqb}
 use Rattle.layout.specs.Bytes.{stateByte}
 use Rattle.layout.specs.Stands.{Stands, Tells, Turns}
 use Rattle.lists.specs.Lists.{filter, if_then_else_, isEmpty}
-use Rattle.lists.specs.Numbers.{all}
 use Rattle.rules.specs.Calls.{finish, release}
 use Rattle.rules.specs.Schedule.{makeAllReady, makeReady, reschedule}
 use Rattle.rules.specs.declared.Answer.the-variants.{Done}
@@ -57,8 +56,8 @@ module _ (b : ℕ) (bs : List ℕ) where
   unfolding Picks Tells filter
   pick-end ps i l h p t st =
       let none : drop i (t .order) ≡ [] = drop-of-length-le (t .order) {i = i} (omega (arith, st .held .places)) in
-      let all : take i ps ≡ ps = take-all i ps (omega arith) in
-      sym (append-nil (numbers ps)) ∙ (rw (none, all) at (p t st))
+      let whole : take i ps ≡ ps = take-all i ps (omega arith) in
+      sym (append-nil (numbers ps)) ∙ (rw (none, whole) at (p t st))
 
 -- one mark
 mark-one : (f : ℕ → Bool) (x : ℕ) (xs : List ℕ) → x < processLimit → numbers ((if f x then x else processLimit) ∷ []) ++ filter f xs ≡ filter f (x ∷ xs)
