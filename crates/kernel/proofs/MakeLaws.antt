@@ -3,7 +3,6 @@ use Prim.Native.Nat.{_+_, _<_, _≤_, ℕ}
 use native.Mathlib.Omega.{arith}
 use mathlib.Core.Bool.{_||_, false, true}
 use mathlib.Core.List.{List}
-use mathlib.Core.Option.{some}
 use mathlib.Core.Path.{_≡_, refl}
 use lib.IntN.{negsuc, pos, ℤ}
 use lib.Signed.{ltZ}
@@ -18,7 +17,6 @@ use Rattle.tables.specs.Limits.{priorityLimit, processLimit, semaphoreLimit}
 use Rattle.tables.specs.Setters.{withNextProcess, withNextSemaphore, withProcess, withSemaphore}
 use Rattle.tables.specs.declared.State.the-variants.{Suspended}
 use Rattle.tables.specs.declared.Tables.{Tables}
-use Rattle.rules.proofs.Does.{used}
 use Rattle.kernel.specs.Arguments.{indexBelow}
 use Rattle.kernel.specs.Meets.{Meets}
 use Rattle.kernel.specs.Search.{firstFree}
@@ -65,7 +63,7 @@ pub make-11-null : (n : ℕ) (bs : List ℕ) → n ≡ 0 → Meets (λ t. step t
 unfolding step
 make-11-null n bs e = refuses (λ t. step t (MakeProcess (pos n))) 11 bs (λ t st S. rw (lt-ltb n 1 (omega arith)) refl)
 
-module _ (n : ℕ) (some : n ≡ 0 → ⊥) (low : n ≤ priorityLimit) (a : List ℕ) (k r : ℕ) (cursor : Tells (λ t. t .«next_process») a k) (is : k < processLimit → r ≡ firstFree a statesAt processLimit (roundFrom processLimit k)) where
+module _ (n : ℕ) (live : n ≡ 0 → ⊥) (low : n ≤ priorityLimit) (a : List ℕ) (k r : ℕ) (cursor : Tells (λ t. t .«next_process») a k) (is : k < processLimit → r ≡ firstFree a statesAt processLimit (roundFrom processLimit k)) where
   pub make-8 : r ≡ processLimit → Meets (λ t. step t (MakeProcess (pos n))) a a (Refused 8)
   unfolding step isEmpty
   make-8 e = refuses (λ t. step t (MakeProcess (pos n))) 8 a (λ t st S. rw (le-ltb n 1 (omega arith), le-ltb priorityLimit n low, first-none (first-slot a k r t st S cursor is) e) refl)

@@ -9,7 +9,7 @@ use lib.ListN.{getD, length}
 use lib.Dec.{eqb}
 use borrow.Author.Tests.{eq-eqb, ne-eqb}
 use Rattle.lists.specs.Lists.{filter, firstOr}
-use Rattle.lists.specs.Numbers.{all, countUp, listed, roundFrom}
+use Rattle.lists.specs.Numbers.{countUp, listed, roundFrom}
 use Rattle.layout.specs.Bytes.{stateByte, usedByte}
 use Rattle.layout.specs.Offsets.{statesAt, usedAt}
 use Rattle.layout.specs.Stands.{Region, Stands, Tells}
@@ -71,8 +71,8 @@ module _ (bs : List ℕ) (at limit : ℕ) where
     round-over i r e h again k =
         let f : ℕ → Bool = λ x. eqb (getD bs (at + x) 0) 0 in
         let is : First limit (filter f (countUp from (limit - from))) i = subst (First limit (filter f (countUp from (limit - from)))) (sym e) (first-of limit f (countUp from (limit - from)) (up-below from (limit - from) limit (omega arith))) in
-        let all : limit - 0 ≡ limit = omega arith in
-        again ∙ ap (λ (z : ℕ). firstFree bs at limit (countUp 0 z)) all ∙ ap (firstOr limit) (sym (round-again f limit from (omega arith) (first-none is (at-limit is h))))
+        let whole : limit - 0 ≡ limit = omega arith in
+        again ∙ ap (λ (z : ℕ). firstFree bs at limit (countUp 0 z)) whole ∙ ap (firstOr limit) (sym (round-again f limit from (omega arith) (first-none is (at-limit is h))))
 
 -- The cursor after n is taken
 

@@ -11,7 +11,7 @@ use tables::Process;
 use tables::State;
 use tables::Tables;
 ghost use mathlib.Core.Path.{_≡_};
-ghost use Prim.Native.Nat.{_<_, _≤_};
+ghost use Prim.Native.Nat.{_≤_};
 ghost use lib.ListN.{length};
 ghost use lib.IntN.{pos};
 ghost use Rattle.tables.specs.Limits.{priorityLimit};
