@@ -1,3 +1,4 @@
+// Call 0b: the count of a semaphore.
 use crate::target::Target;
 use crate::target::used_semaphore;
 use layout::fields::count;

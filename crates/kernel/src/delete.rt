@@ -1,3 +1,4 @@
+// Call 04: delete a semaphore.
 use crate::release::release;
 use crate::target::Target;
 use crate::target::used_semaphore;

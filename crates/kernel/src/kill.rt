@@ -1,3 +1,4 @@
+// Call 09: kill.
 use crate::counts::raised;
 use crate::index::Index;
 use crate::index::index_below;

@@ -1,3 +1,4 @@
+// Call 06: make a process.
 use crate::index::Index;
 use crate::index::index_below;
 use crate::search::free_round;

@@ -1,3 +1,4 @@
+// Call 03: make a semaphore.
 use crate::counts::below_zero;
 use crate::search::free_round;
 use crate::search::one_past;

@@ -1,3 +1,4 @@
+// Call 05: reset a semaphore.
 use crate::counts::below_zero;
 use crate::release::release;
 use crate::target::Target;

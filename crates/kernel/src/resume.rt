@@ -1,3 +1,4 @@
+// Call 07: resume.
 use crate::index::Index;
 use crate::index::index_below;
 use crate::schedule::make_ready;

@@ -1,3 +1,4 @@
+// Call 02: signal.
 use crate::counts::below_zero;
 use crate::counts::is_full;
 use crate::counts::raised;

@@ -1,3 +1,4 @@
+// Call 08: suspend.
 use crate::index::Index;
 use crate::index::index_below;
 use crate::schedule::reschedule;

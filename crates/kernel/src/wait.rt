@@ -1,3 +1,4 @@
+// Call 01: wait.
 use crate::counts::below_zero;
 use crate::counts::is_spent;
 use crate::counts::lowered;

@@ -1,3 +1,4 @@
+// Call 0a: yield.
 use crate::schedule::reschedule;
 use rules::Answer;
 ghost use mathlib.Core.Path.{_≡_};
