@@ -1,31 +1,32 @@
 -- What the code of every call is shown with. Assumes nothing.
-use Prim.Native.Nat.{_%_, _<_, ℕ}
+use Prim.Native.Nat.{_<_, zero, ℕ}
 use native.Mathlib.Omega.{arith}
 use mathlib.Core.Bool.{false, true}
 use mathlib.Core.List.{List, [], _∷_}
+use mathlib.Core.Option.{none}
 use mathlib.Core.Path.{_∙_, _≡_, ap, refl, subst, sym}
 use lib.IntN.{pos, ℤ}
-use lib.ListN.{drop}
+use lib.ListN.{drop, length}
 use borrow.Author.Tests.{eq-eqb, lt-leb}
 use Rattle.layout.specs.Stands.{Does, Stands, Tells}
+use Rattle.lists.specs.Lists.{first, firstOr}
 use Rattle.rules.specs.Answers.{Check, done, refused, unless}
-use Rattle.rules.specs.Calls.{Call, Count, Deed, Delete, Reset, below0, checks, deed, finish, noProcess, noSemaphore, notUsed, nullProcess, release, step}
+use Rattle.rules.specs.Calls.{Call, Count, Delete, Reset, below0, checks, deed, finish, noProcess, noSemaphore, notUsed, nullProcess, release, step}
 use Rattle.rules.specs.declared.Answer.{Answer}
 use Rattle.rules.specs.declared.Answer.the-variants.{Done, Refused}
 use Rattle.rules.specs.declared.Outcome.{Outcome}
 use Rattle.tables.specs.Limits.{processLimit, semaphoreLimit}
-use Rattle.tables.specs.Readers.{countOf, currentOf, freeSemaphore, isUsed}
+use Rattle.tables.specs.Readers.{countOf, currentOf, currents, freeSemaphore, isUsed}
 use Rattle.tables.specs.Sound.{Sound}
 use Rattle.tables.specs.declared.Tables.{Tables}
-use Rattle.rules.specs.Schedule.{reschedule}
-use Rattle.rules.proofs.Resched.{Prepared}
+use Rattle.rules.proofs.Does.{used}
 use Rattle.kernel.specs.Arguments.{Chosen, indexBelow}
 use Rattle.kernel.specs.Meets.{Meets}
+use Rattle.kernel.specs.Row.{found}
 use Rattle.kernel.specs.declared.index.Index.the-variants.{At, Outside}
 use Rattle.kernel.specs.declared.target.Target.the-variants.{Refusal, Used}
-use Rattle.kernel.specs.Schedule.{Reschedules, currentSum}
 use Rattle.kernel.proofs.Arguments.{no-number, number}
-use Rattle.kernel.proofs.ScheduleLaws.{sum-is}
+use Rattle.kernel.proofs.Found.{line-current, told-nobody, told-somebody}
 
 -- a rule by another name
 pub alike : (f g : Tables → Outcome) (a b : List ℕ) (r : Answer) → ((t : Tables) → Stands t a → Sound t → f t ≡ g t) → Meets g a b r → Meets f a b r
@@ -90,11 +91,14 @@ pub numbered-goes : (call : ℤ → Call) (z : ℤ) (m n : ℕ) (a b : List ℕ)
 numbered-goes call z m n a b r e d = subst (λ (x : ℤ). Meets (λ t. step t (call x)) a b r) (sym (number z m n e .0)) d
 
 -- who runs
-pub runs : (c : ℕ) (a : List ℕ) → Tells (λ t. currentSum t % 256) a c → (t : Tables) → Stands t a → Sound t → (c < processLimit) × (c ≡ currentOf t)
-unfolding Tells
-runs c a told t st S = let w = sum-is (S .laid) c (rw (S .running .one) (omega arith)) (told t st) in (w .1, w .0)
+module _ (c : ℕ) (a : List ℕ) (told : Tells (found 1) a c) (t : Tables) (st : Stands t a) (S : Sound t) where
+  somebody : c ≡ processLimit → ⊥
+  somebody e =
+      let none : currents t ≡ [] = sym (line-current t) ∙ told-nobody 1 c a told t st e in
+      let one : length (currents t) ≡ 1 = S .running .one in
+      let zero : length (currents t) ≡ 0 = ap length none in
+      omega arith
 
--- what a call hands on is rescheduled
-pub run-on : (d : Deed) (a b : List ℕ) → Prepared d → Reschedules a b → Stands (d .tables) a → Stands (reschedule (d .tables)) b
-unfolding Reschedules
-run-on d a b P run st = run (d .tables) st (P .laid) (P .few)
+  pub runs : (c < processLimit) × (c ≡ currentOf t)
+  unfolding firstOr
+  runs = let w = told-somebody 1 c a told t st somebody in (w .0, ap first (sym (sym (line-current t) ∙ w .2)))

@@ -10,24 +10,23 @@ use mir.Syntax.{w32}
 use mir.Val.{SFits, ofZ, toZ}
 use mir.ValLaws.{toZ-ofZ}
 use borrow.Author.Tests.{le-ltb, lt-ltb, ne-eqb}
-use Rattle.rules.specs.Calls.{Reset, Yield, below0, step, switching}
+use Rattle.layout.specs.Stands.{Turns}
+use Rattle.rules.specs.Calls.{Reset, Yield, below0, step}
 use Rattle.rules.specs.Enter.{callOf, isZero, numbered, spare}
 use Rattle.rules.specs.Schedule.{reschedule}
 use Rattle.rules.specs.declared.Answer.{Answer}
 use Rattle.rules.specs.declared.Answer.the-variants.{Done, Refused}
 use Rattle.rules.proofs.Numbers.{number-spare, number-unknown}
-use Rattle.rules.proofs.Slots.{yield-prepared}
 use Rattle.kernel.specs.Meets.{Meets}
-use Rattle.kernel.specs.Schedule.{Reschedules}
-use Rattle.kernel.proofs.CallLaws.{alike, does, refuses, run-on}
+use Rattle.kernel.proofs.CallLaws.{alike, does, refuses}
 
 pub reset-3 : (a b : ℤ) (bs : List ℕ) → below0 b ≡ true → Meets (λ t. step t (Reset a b)) bs bs (Refused 3)
 unfolding step
 reset-3 a b bs h = refuses (λ t. step t (Reset a b)) 3 bs (λ t st S. rw h refl)
 
-pub yield-done : (a b : List ℕ) → Reschedules a b → Meets (λ t. step t Yield) a b (Done (pos 1))
-unfolding step
-yield-done a b run = does (λ t. step t Yield) (pos 1) a b (λ t st S. (reschedule t, refl, run-on (switching (pos 1) t) a b (yield-prepared S (pos 1)) run st))
+pub yield-done : (a b : List ℕ) → Turns reschedule a b → Meets (λ t. step t Yield) a b (Done (pos 1))
+unfolding step Turns
+yield-done a b run = does (λ t. step t Yield) (pos 1) a b (λ t st S. (reschedule t, refl, run t st))
 
 -- An argument that the call doesn't use
 

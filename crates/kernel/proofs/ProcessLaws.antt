@@ -6,7 +6,7 @@ use lib.IntN.{pos, sucℤ, ℤ}
 use borrow.Author.Tests.{lt-leb, ne-eqb}
 use Rattle.layout.specs.Stands.{Stands, Tells, Turns}
 use Rattle.rules.specs.Answers.{done, refused}
-use Rattle.rules.specs.Calls.{Kill, Resume, Suspend, step, stop, switching}
+use Rattle.rules.specs.Calls.{Kill, Resume, Suspend, step, stop}
 use Rattle.rules.specs.Schedule.{makeReady, reschedule}
 use Rattle.rules.specs.declared.Answer.the-variants.{Done, Refused}
 use Rattle.rules.specs.declared.Outcome.{Outcome}
@@ -17,14 +17,11 @@ use Rattle.tables.specs.declared.Process.{Process}
 use Rattle.tables.specs.declared.State.{State}
 use Rattle.tables.specs.declared.State.the-variants.{Current, Free, Ready, Suspended, Waiting}
 use Rattle.tables.specs.declared.Tables.{Tables}
-use Rattle.tables.specs.States.{isFree}
 use Rattle.layout.proofs.Signed.{up}
 use Rattle.tables.proofs.Sentences.{waiter-below}
-use Rattle.rules.proofs.Slots.{free-prepared, resume-prepared, suspend-prepared}
 use Rattle.kernel.specs.Counts.{raise}
 use Rattle.kernel.specs.Meets.{Meets}
-use Rattle.kernel.specs.Schedule.{Reschedules}
-use Rattle.kernel.proofs.CallLaws.{does, refuses, run-on}
+use Rattle.kernel.proofs.CallLaws.{does, refuses}
 use Rattle.kernel.proofs.CountLaws.{raise-sound}
 
 abbrev resumed : Tables → ℕ → State → Outcome
@@ -86,11 +83,11 @@ module _ (p : ℕ) (h : p < processLimit) (a : List ℕ) (x : Process) (told : p
   pub resume-refused : (k : State) (n : ℕ) → ((t : Tables) → resumed t p k ≡ refused n t) → x .state ≡ k → Meets (λ t. step t (Resume (pos p))) a a (Refused n)
   resume-refused k n is e = refuses (λ t. step t (Resume (pos p))) n a (λ t st S. resume-by t p h k (state k e t st) ∙ is t)
 
-  pub resume-done : (v : ℤ) (b d : List ℕ) → v ≡ pos (x .priority) → x .state ≡ Suspended → (p < processLimit → Turns (λ t. makeReady t p) a b) → Reschedules b d → Meets (λ t. step t (Resume (pos p))) a d (Done v)
+  pub resume-done : (v : ℤ) (b d : List ℕ) → v ≡ pos (x .priority) → x .state ≡ Suspended → (p < processLimit → Turns (λ t. makeReady t p) a b) → Turns reschedule b d → Meets (λ t. step t (Resume (pos p))) a d (Done v)
   unfolding Turns
   resume-done v b d is e join run =
       does (λ t. step t (Resume (pos p))) v a d (λ t st S.
-      (reschedule (makeReady t p), resume-by t p h Suspended (state Suspended e t st) ∙ ap (λ (z : ℤ). done z (reschedule (makeReady t p))) (value v is t st), run-on (switching v (makeReady t p)) b d (resume-prepared S p (state Suspended e t st) v) run (join h t st)))
+      (reschedule (makeReady t p), resume-by t p h Suspended (state Suspended e t st) ∙ ap (λ (z : ℤ). done z (reschedule (makeReady t p))) (value v is t st), run (makeReady t p) (join h t st)))
 
   module _ (n : p ≡ 0 → ⊥) where
     pub suspend-refused : (k : State) (i : ℕ) → ((t : Tables) → suspended t p k ≡ refused i t) → x .state ≡ k → Meets (λ t. step t (Suspend (pos p))) a a (Refused i)
@@ -99,18 +96,18 @@ module _ (p : ℕ) (h : p < processLimit) (a : List ℕ) (x : Process) (told : p
     pub kill-refused : x .state ≡ Free → Meets (λ t. step t (Kill (pos p))) a a (Refused 7)
     kill-refused e = refuses (λ t. step t (Kill (pos p))) 7 a (λ t st S. kill-by t p h n Free (state Free e t st))
 
-    module _ (b : List ℕ) (halt : p < processLimit → Turns (λ t. withState t p Suspended) a b) (v : ℤ) (is : v ≡ pos (x .priority)) where
+    module _ (b : List ℕ) (stop : p < processLimit → Turns (λ t. withState t p Suspended) a b) (v : ℤ) (is : v ≡ pos (x .priority)) where
       pub suspend-ready : x .state ≡ Ready → Meets (λ t. step t (Suspend (pos p))) a b (Done v)
       unfolding Turns
       suspend-ready e =
           does (λ t. step t (Suspend (pos p))) v a b (λ t st S.
-          (withState t p Suspended, suspend-by t p h n Ready (state Ready e t st) ∙ ap (λ (z : ℤ). done z (withState t p Suspended)) (value v is t st), halt h t st))
+          (withState t p Suspended, suspend-by t p h n Ready (state Ready e t st) ∙ ap (λ (z : ℤ). done z (withState t p Suspended)) (value v is t st), stop h t st))
 
-      pub suspend-current : (d : List ℕ) → x .state ≡ Current → Reschedules b d → Meets (λ t. step t (Suspend (pos p))) a d (Done v)
+      pub suspend-current : (d : List ℕ) → x .state ≡ Current → Turns reschedule b d → Meets (λ t. step t (Suspend (pos p))) a d (Done v)
       unfolding Turns
       suspend-current d e run =
           does (λ t. step t (Suspend (pos p))) v a d (λ t st S.
-          (reschedule (withState t p Suspended), suspend-by t p h n Current (state Current e t st) ∙ ap (λ (z : ℤ). done z (reschedule (withState t p Suspended))) (value v is t st), run-on (stop v t p (record { state = Suspended; priority = priorityOf t p })) b d (suspend-prepared S p h (λ z. n (sym z)) (ap isFree (state Current e t st)) v) run (halt h t st)))
+          (reschedule (withState t p Suspended), suspend-by t p h n Current (state Current e t st) ∙ ap (λ (z : ℤ). done z (reschedule (withState t p Suspended))) (value v is t st), run (withState t p Suspended) (stop h t st)))
 
     module _ (b : List ℕ) (free : p < processLimit → Turns (λ t. withProcess t p freeSlot) a b) where
       -- a ready or suspended one
@@ -118,9 +115,9 @@ module _ (p : ℕ) (h : p < processLimit) (a : List ℕ) (x : Process) (told : p
       unfolding Turns
       kill-still k is e = does (λ t. step t (Kill (pos p))) (pos 1) a b (λ t st S. (withProcess t p freeSlot, kill-by t p h n k (state k e t st) ∙ is t, free h t st))
 
-      pub kill-current : (d : List ℕ) → x .state ≡ Current → Reschedules b d → Meets (λ t. step t (Kill (pos p))) a d (Done (pos 1))
+      pub kill-current : (d : List ℕ) → x .state ≡ Current → Turns reschedule b d → Meets (λ t. step t (Kill (pos p))) a d (Done (pos 1))
       unfolding Turns
-      kill-current d e run = does (λ t. step t (Kill (pos p))) (pos 1) a d (λ t st S. (reschedule (withProcess t p freeSlot), kill-by t p h n Current (state Current e t st), run-on (stop (pos 1) t p freeSlot) b d (free-prepared S p h (λ z. n (sym z)) (pos 1)) run (free h t st)))
+      kill-current d e run = does (λ t. step t (Kill (pos p))) (pos 1) a d (λ t st S. (reschedule (withProcess t p freeSlot), kill-by t p h n Current (state Current e t st), run (withProcess t p freeSlot) (free h t st)))
 
     pub kill-waiting : (q : ℕ) (b d : List ℕ) → x .state ≡ Waiting q → (q < semaphoreLimit → Turns (λ t. withCount t q (raise (countOf t q))) a b) → (p < processLimit → Turns (λ t. withProcess t p freeSlot) b d) → Meets (λ t. step t (Kill (pos p))) a d (Done (pos 1))
     unfolding Turns

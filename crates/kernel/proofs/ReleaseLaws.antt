@@ -4,6 +4,7 @@ use native.Mathlib.Numerals.{add-one}
 use native.Mathlib.Omega.{arith}
 use mathlib.Core.Bool.{Bool, false}
 use mathlib.Core.List.{List, [], _++_, _∷_, append-assoc, append-nil}
+use mathlib.Core.Option.{none}
 use mathlib.Core.Path.{_∙_, _≡_, ap, refl, subst, sym}
 use lib.Dec.{ltb}
 use lib.IntN.{pos}
@@ -23,12 +24,10 @@ use Rattle.tables.specs.declared.Semaphore.{Semaphore}
 use Rattle.tables.specs.declared.Tables.{Tables}
 use Rattle.lists.proofs.Bools.{split}
 use Rattle.lists.proofs.RoundLaws.{filter-append}
-use Rattle.rules.proofs.Release.{release-prepared}
 use Rattle.kernel.specs.Meets.{Meets}
 use Rattle.kernel.specs.Release.{marked, numbers, readyIf}
 use Rattle.kernel.specs.Row.{byByte, found}
-use Rattle.kernel.specs.Schedule.{Reschedules}
-use Rattle.kernel.proofs.CallLaws.{does, run-on}
+use Rattle.kernel.proofs.CallLaws.{does}
 use Rattle.kernel.proofs.Found.{line-queue, place-byte, told-nobody, told-somebody}
 use Rattle.kernel.proofs.Moves.{next}
 
@@ -131,7 +130,7 @@ module _ (s : ℕ) (x : Semaphore) (h : s < semaphoreLimit) (a : List ℕ) (w : 
       let none : queue t s ≡ [] = sym (line-queue t s h) ∙ told-nobody (4 + s) w a head t st e in
       (withSemaphore t s x, rw none refl, put t st))
 
-  pub release-some : (ps d e : List ℕ) → (w ≡ processLimit → ⊥) → Tells (λ t. line t (byByte (4 + s))) a (numbers ps) → Turns (λ t. makeAllReady t (numbers ps)) b d → Reschedules d e → Meets (λ t. finish (release t s x)) a e (Done (pos 1))
+  pub release-some : (ps d e : List ℕ) → (w ≡ processLimit → ⊥) → Tells (λ t. line t (byByte (4 + s))) a (numbers ps) → Turns (λ t. makeAllReady t (numbers ps)) b d → Turns reschedule d e → Meets (λ t. finish (release t s x)) a e (Done (pos 1))
   unfolding Tells Turns isEmpty
   release-some ps d e waits picked free run =
       does (λ t. finish (release t s x)) (pos 1) a e (λ t st S.
@@ -140,5 +139,5 @@ module _ (s : ℕ) (x : Semaphore) (h : s < semaphoreLimit) (a : List ℕ) (w : 
       let full : isEmpty (queue t s) ≡ false = ap isEmpty (sym (line-queue t s h) ∙ y .2) in (
         reschedule (makeAllReady v (queue t s)),
         rw full refl,
-        run-on (release t s x) d e (release-prepared S s x) run (subst (λ (z : List ℕ). Stands (makeAllReady v z) d) (picked t st ∙ line-queue t s h) (free v (put t st))),
+        subst (λ (z : List ℕ). Stands (reschedule (makeAllReady v z)) e) (picked t st ∙ line-queue t s h) (run (makeAllReady v (numbers ps)) (free v (put t st))),
       ))

@@ -1,5 +1,5 @@
 -- Wait and signal: the rule's equation in each branch, and the chain of changes. Assumes nothing.
-use Prim.Native.Nat.{_%_, _+_, _<_, ℕ}
+use Prim.Native.Nat.{_+_, _<_, ℕ}
 use mathlib.Core.Bool.{_&&_, false, true}
 use mathlib.Core.List.{List}
 use mathlib.Core.Path.{_∙_, _≡_, ap, refl, subst, sym}
@@ -10,7 +10,7 @@ use borrow.Author.Tests.{lt-leb}
 use Rattle.layout.specs.Stands.{Stands, Tells, Turns}
 use Rattle.lists.specs.Lists.{first, firstOr}
 use Rattle.rules.specs.Answers.{done, refused}
-use Rattle.rules.specs.Calls.{Signal, Wait, below0, largest, step, switching}
+use Rattle.rules.specs.Calls.{Signal, Wait, below0, largest, step}
 use Rattle.rules.specs.Schedule.{makeReady, makeWait, reschedule}
 use Rattle.rules.specs.declared.Answer.the-variants.{Done, Refused}
 use Rattle.tables.specs.Limits.{processLimit, semaphoreLimit}
@@ -18,12 +18,11 @@ use Rattle.tables.specs.Readers.{countOf, currentOf, isUsed, line, queue}
 use Rattle.tables.specs.Setters.{withCount}
 use Rattle.tables.specs.Sound.{Sound}
 use Rattle.tables.specs.declared.Tables.{Tables}
-use Rattle.rules.proofs.WaitSignal.{blocks-not-null, signal-prepared, wait-prepared}
+use Rattle.rules.proofs.Does.{used}
 use Rattle.kernel.specs.Counts.{lower, raise}
 use Rattle.kernel.specs.Meets.{Meets}
 use Rattle.kernel.specs.Row.{found}
-use Rattle.kernel.specs.Schedule.{Reschedules, currentSum}
-use Rattle.kernel.proofs.CallLaws.{does, refuses, run-on, runs}
+use Rattle.kernel.proofs.CallLaws.{does, refuses, runs}
 use Rattle.kernel.proofs.CountLaws.{lower-sound, somebody-waits}
 use Rattle.kernel.proofs.Found.{line-queue, told-nobody, told-somebody}
 
@@ -61,7 +60,7 @@ module _ (s : ℕ) (h : s < semaphoreLimit) (a : List ℕ) (n : ℤ) (count : Te
   unfolding Tells
   is t st = sym (used t st)
 
-  module _ (c : ℕ) (current : Tells (λ t. currentSum t % 256) a c) where
+  module _ (c : ℕ) (current : Tells (found 1) a c) where
     bars : (t : Tables) → Stands t a → Sound t → (eqb c 0 && leZ n (pos 0)) ≡ (eqb (currentOf t) 0 && leZ (countOf t s) (pos 0))
     unfolding Tells
     bars t st S = ap (λ (z : ℕ). eqb z 0 && leZ n (pos 0)) (runs c a current t st S .1) ∙ ap (λ (z : ℤ). eqb (currentOf t) 0 && leZ z (pos 0)) (count t st)
@@ -74,7 +73,7 @@ module _ (s : ℕ) (h : s < semaphoreLimit) (a : List ℕ) (n : ℤ) (count : Te
       unfolding Tells
       lowers t st S = less ∙ ap lower (count t st) ∙ lower-sound S s
 
-      pub wait-block : (d e : List ℕ) → below0 m ≡ true → (c < processLimit → Turns (λ t. makeWait t c s) b d) → Reschedules d e → Meets (λ t. step t (Wait (pos s))) a e (Done (pos 1))
+      pub wait-block : (d e : List ℕ) → below0 m ≡ true → (c < processLimit → Turns (λ t. makeWait t c s) b d) → Turns reschedule d e → Meets (λ t. step t (Wait (pos s))) a e (Done (pos 1))
       unfolding Turns
       wait-block d e neg join run =
           does (λ t. step t (Wait (pos s))) (pos 1) a e (λ t st S.
@@ -83,9 +82,8 @@ module _ (s : ℕ) (h : s < semaphoreLimit) (a : List ℕ) (n : ℤ) (count : Te
             reschedule (makeWait (withCount t s (predℤ (countOf t s))) (currentOf t) s),
             wait-blocks t s h (is t st) (sym (bars t st S) ∙ free) (ap below0 (sym q) ∙ neg),
             subst (λ (z : ℤ). Stands (reschedule (makeWait (withCount t s z) (currentOf t) s)) e) q
-                (run-on (switching (pos 1) (makeWait (withCount t s m) (currentOf t) s)) d e
-                (wait-prepared S s (is t st) m (blocks-not-null (countOf t s) (currentOf t) (sym (bars t st S) ∙ free) (ap below0 (sym q) ∙ neg))) run
-                (subst (λ (z : ℕ). Stands (makeWait (withCount t s m) z s) d) (w .1) (join (w .0) (withCount t s m) (put t st)))),
+                (subst (λ (z : ℕ). Stands (reschedule (makeWait (withCount t s m) z s)) e) (w .1)
+                (run (makeWait (withCount t s m) c s) (join (w .0) (withCount t s m) (put t st)))),
           ))
 
       pub wait-go : below0 m ≡ false → Meets (λ t. step t (Wait (pos s))) a b (Done (pos 1))
@@ -111,7 +109,7 @@ module _ (s : ℕ) (h : s < semaphoreLimit) (a : List ℕ) (n : ℤ) (count : Te
     unfolding Tells
     roomy t st = ap (leZ largest) (sym (count t st)) ∙ free
 
-    pub signal-free : (w : ℕ) (d e : List ℕ) → below0 n ≡ true → Tells (found (4 + s)) b w → (w < processLimit → Turns (λ t. makeReady t w) b d) → Reschedules d e → Meets (λ t. step t (Signal (pos s))) a e (Done (pos 1))
+    pub signal-free : (w : ℕ) (d e : List ℕ) → below0 n ≡ true → Tells (found (4 + s)) b w → (w < processLimit → Turns (λ t. makeReady t w) b d) → Turns reschedule d e → Meets (λ t. step t (Signal (pos s))) a e (Done (pos 1))
     unfolding Tells Turns firstOr line
     signal-free w d e neg head join run =
         does (λ t. step t (Signal (pos s))) (pos 1) a e (λ t st S.
@@ -123,7 +121,7 @@ module _ (s : ℕ) (h : s < semaphoreLimit) (a : List ℕ) (n : ℤ) (count : Te
           signal-frees t s h (is t st) (roomy t st) owed,
           subst (λ (z : ℤ). Stands (reschedule (makeReady (withCount t s z) (first (queue t s)))) e) (raises t st)
               (subst (λ (z : ℕ). Stands (reschedule (makeReady v z)) e) f
-              (run-on (switching (pos 1) (makeReady v w)) d e (signal-prepared S s (is t st) m w (x .1) (sym (line-queue v s h) ∙ x .2)) run (join (x .0) v (put t st)))),
+              (run (makeReady v w) (join (x .0) v (put t st)))),
         ))
 
     pub signal-go : below0 n ≡ false → Meets (λ t. step t (Signal (pos s))) a b (Done (pos 1))

@@ -31,8 +31,7 @@ fn signal_on(bytes: &mut [u8], s: u8) -> Answer
     if is_full(n) {
         return Answer::Refused(5);
     }
-    let m = raised(n);
-    put_count(bytes, s, m);
+    put_count(bytes, s, raised(n));
     if below_zero(n) {
         let w = find(bytes, WAITING + s);
         make_ready(bytes, w);

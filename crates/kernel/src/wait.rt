@@ -2,13 +2,14 @@
 use crate::counts::below_zero;
 use crate::counts::is_spent;
 use crate::counts::lowered;
-use crate::schedule::current;
+use crate::row::find;
 use crate::schedule::make_wait;
 use crate::schedule::reschedule;
 use crate::target::Target;
 use crate::target::used_semaphore;
 use layout::fields::count;
 use layout::fields::put_count;
+use layout::state::CURRENT;
 use rules::Answer;
 ghost use mathlib.Core.Path.{_≡_};
 ghost use mathlib.Core.Bool.{true, _&&_};
@@ -38,7 +39,7 @@ fn wait_on(bytes: &mut [u8], s: u8) -> Answer
     requires { ⌜ (length (now bytes) ≡ size) × (s < semaphoreLimit) ⌝ }
     ensures { λ r. ⌜ (Tells (λ t. isUsed t s) (now (bytes .entry)) true → Meets (λ t. step t (Wait (pos s))) (now (bytes .entry)) (now (bytes .exit)) r) ⌝ }
 {
-    let c = current(bytes);
+    let c = find(bytes, CURRENT);
     let n = count(bytes, s);
     if barred(c, n) {
         return Answer::Refused(10);
