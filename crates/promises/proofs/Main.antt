@@ -18,7 +18,6 @@ use Rattle.tables.specs.States.{isCurrent, isFree, isReady, isSuspended, waitsO
 use Rattle.tables.specs.Readers.{countOf, queue, stateOf}
 use Rattle.tables.specs.Boot.{boot}
 use Rattle.tables.specs.Sound.{Sound}
-use Rattle.rules.specs.Telling.{inUse, notInUse}
 use Rattle.tables.proofs.States.{is-free}
 use Rattle.tables.proofs.LineLaws.{in-line-live}
 use Rattle.tables.proofs.Sentences.{few-wait, sentences}

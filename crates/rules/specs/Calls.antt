@@ -101,6 +101,7 @@ signalOn t s =
     if below0 c then switching (pos 1) (makeReady (withCount t s (sucℤ c)) (first (queue t s))) else plain (pos 1) (withCount t s (sucℤ c))
 
 -- the entry as given; all waiters become ready in queue order; then one reschedule if there was any
+-- (document 001's prose has the end of deferral reschedule always; ours does so only if a waiter was released)
 abbrev pub release : Tables → ℕ → Semaphore → Deed
 release t s x = record { tables = makeAllReady (withSemaphore t s x) (queue t s); reschedules = not (isEmpty (queue t s)); value = pos 1 }
 
@@ -125,6 +126,7 @@ uncounted t (Waiting s) = withCount t s (sucℤ (countOf t s))
 -- The two tables of the paper
 
 -- the checks of a call, in order
+-- (document 001 lets process 0 block, ours refuses that with 10; its signal can wrap at the top, ours is refused with 5)
 abbrev pub checks : Tables → Call → List Check
 checks t (Wait a) = noSemaphore a ∷ notUsed t a ∷ (10 when eqb (currentOf t) 0 && leZ (countOf t (natAbs a)) (pos 0)) ∷ []
 checks t (Signal a) = noSemaphore a ∷ notUsed t a ∷ (5 when leZ largest (countOf t (natAbs a))) ∷ []
@@ -139,6 +141,7 @@ checks t Yield = []
 checks t (Count a) = noSemaphore a ∷ notUsed t a ∷ []
 
 -- what a call does when no check holds
+-- (document 001's delete leaves a leftover count in the freed entry, ours is 0)
 abbrev pub deed : Tables → Call → Deed
 deed t (Wait a) = waitOn t (natAbs a)
 deed t (Signal a) = signalOn t (natAbs a)
