@@ -1,9 +1,8 @@
 -- What the code of every call is shown with. Assumes nothing.
-use Prim.Native.Nat.{_<_, zero, ℕ}
+use Prim.Native.Nat.{_<_, ℕ}
 use native.Mathlib.Omega.{arith}
 use mathlib.Core.Bool.{false, true}
 use mathlib.Core.List.{List, [], _∷_}
-use mathlib.Core.Option.{none}
 use mathlib.Core.Path.{_∙_, _≡_, ap, refl, subst, sym}
 use lib.IntN.{pos, ℤ}
 use lib.ListN.{drop, length}
@@ -19,7 +18,6 @@ use Rattle.tables.specs.Limits.{processLimit, semaphoreLimit}
 use Rattle.tables.specs.Readers.{countOf, currentOf, currents, freeSemaphore, isUsed}
 use Rattle.tables.specs.Sound.{Sound}
 use Rattle.tables.specs.declared.Tables.{Tables}
-use Rattle.rules.proofs.Does.{used}
 use Rattle.kernel.specs.Arguments.{Chosen, indexBelow}
 use Rattle.kernel.specs.Meets.{Meets}
 use Rattle.kernel.specs.Row.{found}
@@ -41,11 +39,6 @@ refuses f n bs e = alike f (refused n) bs bs (Refused n) e (λ t st S. (refl, st
 pub does : (f : Tables → Outcome) (v : ℤ) (a b : List ℕ) → ((t : Tables) → Stands t a → Sound t → (u : Tables) × (f t ≡ done v u) × Stands u b) → Meets f a b (Done v)
 unfolding Meets Does
 does f v a b e t st S = let w = e t st S in (sym (ap (λ (o : Outcome). o .answer) (w .1)), subst (λ (o : Outcome). Stands (o .tables) b) (sym (w .1)) (w .2))
-
--- a number that was read and passed on is read back from its bits
-pub told-as : {A : Type 0} (f : Tables → A) (bs : List ℕ) (x y : A) → y ≡ x → Tells f bs x → Tells f bs y
-unfolding Tells
-told-as f bs x y e told t st = e ∙ told t st
 
 -- Calls on a semaphore: the first two checks
 

@@ -17,7 +17,6 @@ use Rattle.tables.specs.Limits.{priorityLimit, processLimit, semaphoreLimit}
 use Rattle.tables.specs.Setters.{withNextProcess, withNextSemaphore, withProcess, withSemaphore}
 use Rattle.tables.specs.declared.State.the-variants.{Suspended}
 use Rattle.tables.specs.declared.Tables.{Tables}
-use Rattle.rules.proofs.Does.{used}
 use Rattle.kernel.specs.Arguments.{indexBelow}
 use Rattle.kernel.specs.Meets.{Meets}
 use Rattle.kernel.specs.Search.{firstFree}

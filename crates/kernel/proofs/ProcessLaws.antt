@@ -17,7 +17,7 @@ use Rattle.tables.specs.declared.Process.{Process}
 use Rattle.tables.specs.declared.State.{State}
 use Rattle.tables.specs.declared.State.the-variants.{Current, Free, Ready, Suspended, Waiting}
 use Rattle.tables.specs.declared.Tables.{Tables}
-use Rattle.layout.proofs.Signed.{up}
+use Rattle.layout.proofs.Compose.{with-told}
 use Rattle.tables.proofs.Sentences.{waiter-below}
 use Rattle.kernel.specs.Counts.{raise}
 use Rattle.kernel.specs.Meets.{Meets}
@@ -132,5 +132,4 @@ module _ (p : ℕ) (h : p < processLimit) (a : List ℕ) (x : Process) (told : p
 
 -- one waiter less
 pub raise-turns : (s : ℕ) (n m : ℤ) (a b : List ℕ) → Tells (λ t. countOf t s) a n → m ≡ raise n → Turns (λ t. withCount t s m) a b → Turns (λ t. withCount t s (raise (countOf t s))) a b
-unfolding Tells Turns
-raise-turns s n m a b told e put t st = subst (λ (z : ℤ). Stands (withCount t s z) b) (e ∙ ap raise (told t st)) (put t st)
+raise-turns s n m a b told e put = with-told (λ t. countOf t s) a n told (λ z t. withCount t s (raise z)) b (rw e at put)

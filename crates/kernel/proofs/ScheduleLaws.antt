@@ -3,7 +3,6 @@ use Prim.Native.Nat.{_<_, ℕ}
 use native.Mathlib.Omega.{arith}
 use mathlib.Core.Bool.{Bool, false, true}
 use mathlib.Core.List.{List, [], _∷_}
-use mathlib.Core.Option.{none, some}
 use mathlib.Core.Path.{_∙_, _≡_, ap, fun-ext, refl, subst, sym}
 use lib.Dec.{ltb}
 use borrow.Author.Tests.{le-ltb}
@@ -17,6 +16,7 @@ use Rattle.tables.specs.States.{isReady}
 use Rattle.tables.specs.declared.Process.{Process}
 use Rattle.tables.specs.declared.State.the-variants.{Current, Ready, Waiting}
 use Rattle.tables.specs.declared.Tables.{Tables}
+use Rattle.layout.proofs.Compose.{in-turn, with-told}
 use Rattle.lists.proofs.Bools.{split}
 use Rattle.kernel.specs.Row.{below, found, placed}
 use Rattle.kernel.proofs.Found.{line-current, line-ready, told-nobody, told-somebody}
@@ -24,9 +24,10 @@ use Rattle.kernel.proofs.Found.{line-current, line-ready, told-nobody, 
 -- Joining
 
 pub ready-turns : (p : ℕ) (x : Process) (a b c : List ℕ) → (p < processLimit → Tells (λ t. process t p) a x) → (p < processLimit → Turns (placed p (x .priority)) a b) → (p < processLimit → Turns (λ t. withState t p Ready) b c) → p < processLimit → Turns (λ t. makeReady t p) a c
-unfolding Tells Turns joining
-ready-turns p x a b c told moved put h t st =
-    subst (λ (z : ℕ). Stands (withState (placed p z t) p Ready) c) (ap (λ (z : Process). z .priority) (told h t st)) (put h (placed p (x .priority) t) (moved h t st))
+unfolding joining
+ready-turns p x a b c told moved put h =
+    with-told (λ t. process t p) a x (told h) (λ y t. withState (placed p (y .priority) t) p Ready) c
+    (in-turn (placed p (x .priority)) (λ t. withState t p Ready) a b c (moved h) (put h))
 
 -- nobody is below level 0
 never : (t : Tables) → below 0 t ≡ (λ x. false)

@@ -18,7 +18,6 @@ use Rattle.tables.specs.Readers.{countOf, currentOf, isUsed, line, queue}
 use Rattle.tables.specs.Setters.{withCount}
 use Rattle.tables.specs.Sound.{Sound}
 use Rattle.tables.specs.declared.Tables.{Tables}
-use Rattle.rules.proofs.Does.{used}
 use Rattle.kernel.specs.Counts.{lower, raise}
 use Rattle.kernel.specs.Meets.{Meets}
 use Rattle.kernel.specs.Row.{found}

@@ -31,7 +31,8 @@ fn signal_on(bytes: &mut [u8], s: u8) -> Answer
     if is_full(n) {
         return Answer::Refused(5);
     }
-    put_count(bytes, s, raised(n));
+    let m = raised(n);
+    put_count(bytes, s, m);
     if below_zero(n) {
         let w = find(bytes, WAITING + s);
         make_ready(bytes, w);

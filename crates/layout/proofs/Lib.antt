@@ -1,3 +1,4 @@
+pub mod Compose
 pub mod Signed
 pub mod Regions
 pub mod Writers

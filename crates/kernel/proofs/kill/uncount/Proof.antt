@@ -4,7 +4,7 @@ use mir.Syntax.{w32}
 use mir.ValLaws.{toZ-ofZ}
 use borrow.Author.Needs.{needs}
 use Rattle.kernel.proofs.kill.uncount.Statement.{statement}
-use Rattle.kernel.proofs.CallLaws.{told-as}
+use Rattle.layout.proofs.Compose.{told-as}
 use Rattle.kernel.proofs.ProcessLaws.{raise-turns}
 use Rattle.kernel.proofs.kill.uncount.Tie as tie
 

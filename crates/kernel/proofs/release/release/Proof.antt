@@ -1,7 +1,6 @@
 use mir.Syntax.{w32}
 use mir.ValLaws.{toZ-ofZ}
 use borrow.Author.Needs.{needs}
-use Rattle.rules.proofs.Does.{used}
 use Rattle.kernel.proofs.release.release.Statement.{statement}
 use Rattle.kernel.proofs.ReleaseLaws.{release-none, release-some}
 use Rattle.kernel.proofs.release.release.Tie as tie

@@ -2,9 +2,8 @@ use mathlib.Core.Path.{_∙_, sym}
 use mir.Syntax.{w32}
 use mir.ValLaws.{toZ-ofZ}
 use borrow.Author.Needs.{needs}
-use Rattle.rules.proofs.Does.{used}
 use Rattle.kernel.proofs.signal.signal_on.Statement.{statement}
-use Rattle.kernel.proofs.CallLaws.{told-as}
+use Rattle.layout.proofs.Compose.{told-as}
 use Rattle.kernel.proofs.WaitSignalLaws.{signal-5, signal-free, signal-go}
 use Rattle.kernel.proofs.signal.signal_on.Tie as tie
 
@@ -45,13 +44,13 @@ same-length-2 : tie.Need-same-length-2
 same-length-2 c = search needs
 
 returns-2 : tie.Need-returns-2
-returns-2 c = λ used. signal-free _ (search needs) _ _ (told-as _ _ _ _ (toZ-ofZ w32 _ (record { sfits = c .before .before .before .before .before .before .before .before .before .before .before .before .before .before .before .before .before .before .before .count .ok })) (c .before .before .before .before .before .before .before .before .before .before .before .before .before .before .before .before .before .before .before .count .ensures)) used (sym (c .before .before .before .before .before .before .before .before .before .before .before .before .before .before .before .before .before .before .is-full .ensures) ∙ c .before .before .before .before .before .before .before .before .before .before .before .before .before .before .before .before .before .if1 .left) _ (toZ-ofZ w32 _ (record { sfits = c .before .before .before .before .before .before .before .before .before .before .before .before .before .before .before .raised .ok }) ∙ c .before .before .before .before .before .before .before .before .before .before .before .before .before .before .before .raised .ensures) _ (c .before .before .before .before .before .before .before .before .before .before .before .before .before .before .put-count .ensures) _ _ _ (sym (c .before .before .before .before .before .before .before .before .before .before .before .below-zero .ensures) ∙ c .before .before .before .before .before .before .before .before .before .before .if2 .taken) (c .before .before .before .before .before .before .before .before .find .ensures) (c .before .before .before .before .before .before .make-ready .ensures) (c .before .before .reschedule .ensures)
+returns-2 c = λ used. signal-free _ (search needs) _ _ (told-as _ _ _ _ (toZ-ofZ w32 _ (record { sfits = c .before .before .before .before .before .before .before .before .before .before .before .before .before .before .before .before .before .before .before .count .ok })) (c .before .before .before .before .before .before .before .before .before .before .before .before .before .before .before .before .before .before .before .count .ensures)) used (sym (c .before .before .before .before .before .before .before .before .before .before .before .before .before .before .before .before .before .before .is-full .ensures) ∙ c .before .before .before .before .before .before .before .before .before .before .before .before .before .before .before .before .before .if1 .left) _ (toZ-ofZ w32 _ (record { sfits = c .before .before .before .before .before .before .before .before .before .before .before .before .before .before .before .before .raised .ok }) ∙ c .before .before .before .before .before .before .before .before .before .before .before .before .before .before .before .before .raised .ensures) _ (c .before .before .before .before .before .before .before .before .before .before .before .before .before .before .put-count .ensures) _ _ _ (sym (c .before .before .before .before .before .before .before .before .before .before .before .below-zero .ensures) ∙ c .before .before .before .before .before .before .before .before .before .before .if2 .taken) (c .before .before .before .before .before .before .before .before .find .ensures) (c .before .before .before .before .before .before .make-ready .ensures) (c .before .before .reschedule .ensures)
 
 same-length-3 : tie.Need-same-length-3
 same-length-3 c = search needs
 
 returns-3 : tie.Need-returns-3
-returns-3 c = λ used. signal-go _ (search needs) _ _ (told-as _ _ _ _ (toZ-ofZ w32 _ (record { sfits = c .before .before .before .before .before .before .before .before .before .count .ok })) (c .before .before .before .before .before .before .before .before .before .count .ensures)) used (sym (c .before .before .before .before .before .before .before .before .is-full .ensures) ∙ c .before .before .before .before .before .before .before .if1 .left) _ (toZ-ofZ w32 _ (record { sfits = c .before .before .before .before .before .raised .ok }) ∙ c .before .before .before .before .before .raised .ensures) _ (c .before .before .before .before .put-count .ensures) (sym (c .before .below-zero .ensures) ∙ c .if2 .left)
+returns-3 c = λ used. signal-go _ (search needs) _ _ (told-as _ _ _ _ (toZ-ofZ w32 _ (record { sfits = c .before .before .before .before .before .before .before .before .before .count .ok })) (c .before .before .before .before .before .before .before .before .before .count .ensures)) used (sym (c .before .before .before .before .before .before .before .before .is-full .ensures) ∙ c .before .before .before .before .before .before .before .if1 .left) _ (toZ-ofZ w32 _ (record { sfits = c .before .before .before .before .before .before .raised .ok }) ∙ c .before .before .before .before .before .before .raised .ensures) _ (c .before .before .before .before .put-count .ensures) (sym (c .before .below-zero .ensures) ∙ c .if2 .left)
 
 pub signal-on-spec : {M : Type 1} → statement M
 signal-on-spec =

@@ -2,9 +2,8 @@ use mathlib.Core.Path.{_∙_, sym}
 use mir.Syntax.{w32}
 use mir.ValLaws.{toZ-ofZ}
 use borrow.Author.Needs.{needs}
-use Rattle.rules.proofs.Does.{used}
 use Rattle.kernel.proofs.wait.wait_on.Statement.{statement}
-use Rattle.kernel.proofs.CallLaws.{told-as}
+use Rattle.layout.proofs.Compose.{told-as}
 use Rattle.kernel.proofs.WaitSignalLaws.{wait-10, wait-block, wait-go}
 use Rattle.kernel.proofs.wait.wait_on.Tie as tie
 
