@@ -1,6 +1,7 @@
 //! Sound tables of every kind, made directly: no calls lead to them.
 
 use crate::random::Random;
+use second::bytes::line_up;
 use second::row::Row;
 use second::tables::{Process, State, Tables, HIGHEST, PROCESSES, SEMAPHORES};
 
@@ -59,16 +60,6 @@ fn row(random: &mut Random, tables: &Tables) -> Row {
         }
     };
     Row(row.into_iter().map(place).collect())
-}
-
-fn line_up(tables: &mut Tables, row: &Row) {
-    for &p in &row.0 {
-        match tables.state(p) {
-            State::Ready => tables.ready.push(p),
-            State::Waiting(s) => tables.semaphores[s].queue.push(p),
-            _ => (),
-        }
-    }
 }
 
 fn fill_semaphore(random: &mut Random, tables: &mut Tables, s: usize) {

@@ -81,7 +81,7 @@ fn semaphores_of(bytes: &[u8]) -> Result<Vec<Semaphore>, &'static str> {
 }
 
 /// The lists are the ready and the waiting ones in the order of the row.
-fn line_up(tables: &mut Tables, row: &Row) {
+pub fn line_up(tables: &mut Tables, row: &Row) {
     for &p in &row.0 {
         match tables.state(p) {
             State::Ready => tables.ready.push(p),
