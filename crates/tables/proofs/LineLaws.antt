@@ -20,7 +20,7 @@ use Rattle.tables.specs.declared.Tables.{Tables}
 use Rattle.tables.specs.Limits.{processLimit, semaphoreLimit}
 use Rattle.tables.specs.States.{isFree}
 use Rattle.tables.specs.Readers.{freeSlot, freeSemaphore, process, stateOf, priorityOf, semaphore, isUsed, line}
-use Rattle.tables.specs.Setters.{withProcess, withState}
+use Rattle.tables.specs.Setters.{inState, withProcess, withState}
 use Rattle.tables.specs.Sound.{Laid}
 
 -- One process
@@ -35,7 +35,7 @@ at-other t p y x h = getD-set-other (t .processes) p x y freeSlot h
 pub priority-kept : (t : Tables) (p : ℕ) (st : State) (x : ℕ) → priorityOf (withState t p st) x ≡ priorityOf t x
 priority-kept t p st x = go (t .processes) p x
   where
-    go : (l : List Process) (i j : ℕ) → getD (set l i (record { state = st; priority = getD l i freeSlot .priority })) j freeSlot .priority ≡ getD l j freeSlot .priority
+    go : (l : List Process) (i j : ℕ) → getD (set l i (inState st (getD l i freeSlot))) j freeSlot .priority ≡ getD l j freeSlot .priority
     go [] i j = refl
     go (a ∷ l) zero zero = refl
     go (a ∷ l) zero (suc j) = refl

@@ -1,11 +1,12 @@
 -- A state that passes a test is the state that the test names. Assumes nothing.
 use Prim.Native.Nat.{ℕ}
 use mathlib.Core.Bool.{Bool, true, false, _||_, false≢true}
+use mathlib.Core.Option.{Option, none, some, Option·none-ne-some, Option·some-injective}
 use mathlib.Core.Path.{_≡_, refl, sym, ap, _∙_}
 use borrow.Author.Tests.{eqb-true}
 use Rattle.tables.specs.declared.State.{State}
 use Rattle.tables.specs.declared.State.the-variants.{Free, Current, Ready, Suspended, Waiting}
-use Rattle.tables.specs.States.{isFree, isCurrent, isReady, isSuspended, waitsOn}
+use Rattle.tables.specs.States.{isFree, isCurrent, isReady, isSuspended, awaits, isThe, waitsOn}
 
 pub is-free : (st : State) → isFree st ≡ true → st ≡ Free
 is-free Free h = refl
@@ -35,12 +36,19 @@ is-suspended Ready h = absurd (false≢true h)
 is-suspended Suspended h = refl
 is-suspended (Waiting s) h = absurd (false≢true h)
 
+pub awaits-some : (st : State) (s : ℕ) → awaits st ≡ some s → st ≡ Waiting s
+awaits-some Free s h = absurd (Option·none-ne-some s h)
+awaits-some Current s h = absurd (Option·none-ne-some s h)
+awaits-some Ready s h = absurd (Option·none-ne-some s h)
+awaits-some Suspended s h = absurd (Option·none-ne-some s h)
+awaits-some (Waiting r) s h = ap Waiting (Option·some-injective r s h)
+
 pub waits-on : (st : State) (s : ℕ) → waitsOn s st ≡ true → st ≡ Waiting s
-waits-on Free s h = absurd (false≢true h)
-waits-on Current s h = absurd (false≢true h)
-waits-on Ready s h = absurd (false≢true h)
-waits-on Suspended s h = absurd (false≢true h)
-waits-on (Waiting r) s h = ap Waiting (eqb-true r s h)
+waits-on st s h = awaits-some st s (go (awaits st) h)
+  where
+    go : (w : Option ℕ) → isThe s w ≡ true → w ≡ some s
+    go none k = absurd (false≢true k)
+    go (some r) k = ap some (eqb-true r s k)
 
 -- what follows
 

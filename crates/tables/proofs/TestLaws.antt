@@ -3,6 +3,7 @@ use Prim.Native.Nat.{ℕ, suc, _≤_, _<_}
 use native.Mathlib.Omega.{arith}
 use mathlib.Core.Bool.{Bool, true, false, _&&_, _||_, true≢false, false≢true}
 use mathlib.Core.List.{List, [], _∷_}
+use mathlib.Core.Option.{Option, none, some}
 use mathlib.Core.Path.{_≡_, refl, sym, ap, subst, _∙_}
 use lib.Dec.{eqb, ltb, leb}
 use lib.IntN.{ℤ, pos, negsuc, natAbs}
@@ -21,11 +22,11 @@ use Rattle.tables.specs.declared.Process.{Process}
 use Rattle.tables.specs.declared.Semaphore.{Semaphore}
 use Rattle.tables.specs.declared.Tables.{Tables}
 use Rattle.tables.specs.Limits.{processLimit, semaphoreLimit, priorityLimit}
-use Rattle.tables.specs.States.{isFree, isCurrent, isReady, waitsOn}
+use Rattle.tables.specs.States.{isFree, isCurrent, isReady, awaits, isThe, waitsOn}
 use Rattle.tables.specs.Readers.{process, stateOf, priorityOf, semaphore, isUsed, countOf, readyList, queue, currents, currentOf}
 use Rattle.tables.specs.Sound.{Laid, Counted, Queued, Sound}
-use Rattle.tables.specs.Test.{shaped, onceEach, namesSemaphore, nullFits, slotFits, countFits, semaphoreFits, countsFit, readyFalls, clauses, allOf, soundNow}
-use Rattle.tables.proofs.States.{is-free, is-ready}
+use Rattle.tables.specs.Test.{shaped, onceEach, isSemaphore, namesSemaphore, nullFits, slotFits, countFits, semaphoreFits, countsFit, readyFalls, clauses, allOf, soundNow}
+use Rattle.tables.proofs.States.{is-free, is-ready, awaits-some}
 use Rattle.tables.proofs.LineLaws.{line-passes, line-empty, slot-past, entry-past, in-line-live}
 use Rattle.tables.proofs.Sentences.{waiter-below}
 
@@ -111,12 +112,9 @@ counted-fits false c q h k = go c (k refl) h
     go (negsuc n) e h = let z : _≡_ {A = ℕ} 0 1 = cc in absurd (omega arith)
 
 -- who waits on a number past the semaphores
-past-named : (st : State) (s : ℕ) → namesSemaphore st ≡ true → semaphoreLimit ≤ s → waitsOn s st ≡ false
-past-named Free s h k = refl
-past-named Current s h k = refl
-past-named Ready s h k = refl
-past-named Suspended s h k = refl
-past-named (Waiting r) s h k = ne-eqb r s (λ e. let g : r < semaphoreLimit = ltb-true r semaphoreLimit h in omega arith)
+past-named : (w : Option ℕ) (s : ℕ) → isSemaphore w ≡ true → semaphoreLimit ≤ s → isThe s w ≡ false
+past-named none s h k = refl
+past-named (some r) s h k = ne-eqb r s (λ e. let g : r < semaphoreLimit = ltb-true r semaphoreLimit h in omega arith)
 
 -- The test holds: the tables are sound
 
@@ -171,7 +169,7 @@ module _ (t : Tables) (P : Passed t) where
       let n = lengths .0 in
       line-empty t (waitsOn s)
       (λ p. below? p processLimit
-      (λ h. past-named (stateOf t p) s (all-at (λ p. namesSemaphore (stateOf t p)) processLimit p (P .names) h) k)
+      (λ h. past-named (awaits (stateOf t p)) s (all-at (λ p. namesSemaphore (stateOf t p)) processLimit p (P .names) h) k)
       (λ h. ap (λ (r : Process). waitsOn s (r .state)) (slot-past t p (omega arith))))
 
   entry-fits : (s : ℕ) → s < semaphoreLimit → countFits (isUsed t s) (countOf t s) (length (queue t s)) ≡ true
@@ -217,14 +215,11 @@ module _ {t : Tables} (S : Sound t) where
       go false e = let r = S .laid .live p h e in and-in (lt-ltb 0 (priorityOf t p) (r .0)) (le-leb (priorityOf t p) priorityLimit (r .1))
 
   names-well : (p : ℕ) → namesSemaphore (stateOf t p) ≡ true
-  names-well p = go (stateOf t p) refl
+  names-well p = go (awaits (stateOf t p)) refl
     where
-      go : (st : State) → stateOf t p ≡ st → namesSemaphore st ≡ true
-      go Free e = refl
-      go Current e = refl
-      go Ready e = refl
-      go Suspended e = refl
-      go (Waiting s) e = lt-ltb s semaphoreLimit (waiter-below S p s e)
+      go : (w : Option ℕ) → awaits (stateOf t p) ≡ w → isSemaphore w ≡ true
+      go none e = refl
+      go (some s) e = lt-ltb s semaphoreLimit (waiter-below S p s (awaits-some (stateOf t p) s e))
 
   sound-passed : Passed t
   unfolding readyFalls countsFit

@@ -7,11 +7,12 @@ use Rattle.tables.specs.declared.State.the-variants.{Current}
 use Rattle.tables.specs.declared.Tables.{Tables}
 use Rattle.tables.specs.Limits.{processLimit, semaphoreLimit}
 use Rattle.tables.specs.Readers.{freeSlot, freeSemaphore}
+use Rattle.tables.specs.Setters.{inState}
 
 unfoldable pub boot : Tables
 boot =
     record {
-      processes = record { state = Current; priority = 0 } ∷ replicate (processLimit - 1) freeSlot;
+      processes = inState Current freeSlot ∷ replicate (processLimit - 1) freeSlot;
       semaphores = replicate semaphoreLimit freeSemaphore;
       order = countUp 0 processLimit;
       «next_semaphore» = 0;

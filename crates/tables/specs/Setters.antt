@@ -1,4 +1,4 @@
--- How the tables are changed. No other file builds tables from their fields, but for `Boot`.
+-- How the tables are changed. No other file builds tables from their fields, but for `Boot`, and none a slot, but for the free one in `Readers`.
 use Prim.Native.Nat.{ℕ}
 use lib.ListN.{set}
 use lib.IntN.{ℤ}
@@ -8,7 +8,22 @@ use Rattle.tables.specs.declared.State.{State}
 use Rattle.tables.specs.declared.Process.{Process}
 use Rattle.tables.specs.declared.Semaphore.{Semaphore}
 use Rattle.tables.specs.declared.Tables.{Tables}
-use Rattle.tables.specs.Readers.{priorityOf, isUsed, countOf, stateOf}
+use Rattle.tables.specs.declared.State.the-variants.{Suspended}
+use Rattle.tables.specs.Readers.{freeSlot, process, isUsed, countOf}
+
+-- Slots
+
+abbrev pub inState : State → Process → Process
+inState st x = record { state = st; priority = x .priority }
+
+abbrev pub ranked : ℕ → Process → Process
+ranked n x = record { state = x .state; priority = n }
+
+-- the slot of a process that is made with this priority
+abbrev pub newSlot : ℕ → Process
+newSlot n = ranked n (inState Suspended freeSlot)
+
+-- Tables
 
 abbrev pub withProcesses : Tables → List Process → Tables
 withProcesses t xs = record { processes = xs; semaphores = t .semaphores; order = t .order; «next_semaphore» = t .«next_semaphore»; «next_process» = t .«next_process» }
@@ -29,10 +44,10 @@ abbrev pub withSemaphore : Tables → ℕ → Semaphore → Tables
 withSemaphore t s x = withSemaphores t (set (t .semaphores) s x)
 
 abbrev pub withState : Tables → ℕ → State → Tables
-withState t p st = withProcess t p (record { state = st; priority = priorityOf t p })
+withState t p st = withProcess t p (inState st (process t p))
 
 abbrev pub withPriority : Tables → ℕ → ℕ → Tables
-withPriority t p n = withProcess t p (record { state = stateOf t p; priority = n })
+withPriority t p n = withProcess t p (ranked n (process t p))
 
 abbrev pub withUsed : Tables → ℕ → Bool → Tables
 withUsed t s u = withSemaphore t s (record { used = u; count = countOf t s })

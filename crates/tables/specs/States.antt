@@ -1,6 +1,7 @@
 -- Tests of a state. The lists of the tables go by these, and never by comparing states.
 use Prim.Native.Nat.{ℕ}
 use mathlib.Core.Bool.{Bool, true, false}
+use mathlib.Core.Option.{Option, none, some}
 use lib.Dec.{eqb}
 use Rattle.tables.specs.declared.State.{State}
 use Rattle.tables.specs.declared.State.the-variants.{Free, Current, Ready, Suspended, Waiting}
@@ -33,9 +34,17 @@ isSuspended Ready = false
 isSuspended Suspended = true
 isSuspended (Waiting s) = false
 
+-- the semaphore that it waits on
+abbrev pub awaits : State → Option ℕ
+awaits Free = none
+awaits Current = none
+awaits Ready = none
+awaits Suspended = none
+awaits (Waiting s) = some s
+
+abbrev pub isThe : ℕ → Option ℕ → Bool
+isThe s none = false
+isThe s (some r) = eqb r s
+
 abbrev pub waitsOn : ℕ → State → Bool
-waitsOn s Free = false
-waitsOn s Current = false
-waitsOn s Ready = false
-waitsOn s Suspended = false
-waitsOn s (Waiting r) = eqb r s
+waitsOn s st = isThe s (awaits st)

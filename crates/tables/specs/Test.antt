@@ -2,18 +2,18 @@
 use Prim.Native.Nat.{ℕ, suc}
 use mathlib.Core.Bool.{Bool, true, false, _&&_, _||_}
 use mathlib.Core.List.{List, [], _∷_}
+use mathlib.Core.Option.{Option, none, some}
 use lib.ListN.{length, getD}
 use lib.IntN.{ℤ, pos, negsuc}
 use lib.Dec.{eqb, ltb, leb}
 use Rattle.lists.specs.Lists.{if_then_else_, times, falls}
 use Rattle.lists.specs.Numbers.{all}
 use Rattle.tables.specs.declared.State.{State}
-use Rattle.tables.specs.declared.State.the-variants.{Free, Current, Ready, Suspended, Waiting}
 use Rattle.tables.specs.declared.Process.{Process}
 use Rattle.tables.specs.declared.Semaphore.{Semaphore}
 use Rattle.tables.specs.declared.Tables.{Tables}
 use Rattle.tables.specs.Limits.{processLimit, semaphoreLimit, priorityLimit}
-use Rattle.tables.specs.States.{isFree, isCurrent, isReady}
+use Rattle.tables.specs.States.{isFree, isCurrent, isReady, awaits}
 use Rattle.tables.specs.Readers.{process, semaphore, stateOf, priorityOf, readyList, queue, currents, currentOf}
 
 -- as many slots, entries and places as the type has
@@ -25,12 +25,12 @@ unfoldable pub onceEach : List ℕ → Bool
 onceEach row = all processLimit (λ i. ltb (getD row i 0) processLimit) && all processLimit (λ p. eqb (times p row) 1)
 
 -- who waits names a semaphore
+abbrev pub isSemaphore : Option ℕ → Bool
+isSemaphore none = true
+isSemaphore (some s) = ltb s semaphoreLimit
+
 abbrev pub namesSemaphore : State → Bool
-namesSemaphore Free = true
-namesSemaphore Current = true
-namesSemaphore Ready = true
-namesSemaphore Suspended = true
-namesSemaphore (Waiting s) = ltb s semaphoreLimit
+namesSemaphore st = isSemaphore (awaits st)
 
 -- the null process: current or ready, with priority 0
 abbrev pub nullFits : Process → Bool
