@@ -45,7 +45,7 @@ does f v a b e t st S = let w = e t st S in (sym (ap (λ (o : Outcome). o .answe
 module _ (a : ℤ) (bs : List ℕ) (n : ℕ) (c : Chosen a bs (Refusal n)) where
   pub semaphore-refused : (call : Call) → ((t : Tables) → checks t call ≡ noSemaphore a ∷ notUsed t a ∷ drop 2 (checks t call)) → Meets (λ t. step t call) bs bs (Refused n)
   unfolding step
-  semaphore-refused call e = refuses (λ t. step t call) n bs (λ t st S. ap (λ (cs : List Check). unless t cs (finish (deed t call))) (e t) ∙ c t st (drop 2 (checks t call)) (finish (deed t call)))
+  semaphore-refused call e = refuses (λ t. step t call) n bs (λ t st S. ap (λ (cs : List Check). unless (λ m. refused m t) cs (finish (deed t call))) (e t) ∙ c t st (drop 2 (checks t call)) (finish (deed t call)))
 
   -- reset first checks the count
   pub reset-refused : (v : ℤ) → below0 v ≡ false → Meets (λ t. step t (Reset a v)) bs bs (Refused n)
@@ -73,12 +73,12 @@ used-count z s a v c told = used-goes z s a a (Done v) c Count (λ u. does (λ t
 pub process-outside : (call : Call) (z : ℤ) (bs : List ℕ) → ((t : Tables) → checks t call ≡ noProcess z ∷ drop 1 (checks t call)) → indexBelow z processLimit ≡ Outside → Meets (λ t. step t call) bs bs (Refused 6)
 unfolding step
 process-outside call z bs e out =
-    refuses (λ t. step t call) 6 bs (λ t st S. ap (λ (cs : List Check). unless t cs (finish (deed t call))) (e t) ∙ rw (no-number z processLimit out) refl)
+    refuses (λ t. step t call) 6 bs (λ t st S. ap (λ (cs : List Check). unless (λ m. refused m t) cs (finish (deed t call))) (e t) ∙ rw (no-number z processLimit out) refl)
 
 pub process-null : (call : Call) (p : ℕ) (bs : List ℕ) → ((t : Tables) → checks t call ≡ noProcess (pos p) ∷ nullProcess (pos p) ∷ drop 2 (checks t call)) → p < processLimit → p ≡ 0 → Meets (λ t. step t call) bs bs (Refused 10)
 unfolding step
 process-null call p bs e h is =
-    refuses (λ t. step t call) 10 bs (λ t st S. ap (λ (cs : List Check). unless t cs (finish (deed t call))) (e t) ∙ rw (lt-leb processLimit p h, eq-eqb p 0 is) refl)
+    refuses (λ t. step t call) 10 bs (λ t st S. ap (λ (cs : List Check). unless (λ m. refused m t) cs (finish (deed t call))) (e t) ∙ rw (lt-leb processLimit p h, eq-eqb p 0 is) refl)
 
 pub numbered-goes : (call : ℤ → Call) (z : ℤ) (m n : ℕ) (a b : List ℕ) (r : Answer) → indexBelow z m ≡ At n → Meets (λ t. step t (call (pos n))) a b r → Meets (λ t. step t (call z)) a b r
 numbered-goes call z m n a b r e d = subst (λ (x : ℤ). Meets (λ t. step t (call x)) a b r) (sym (number z m n e .0)) d

@@ -25,4 +25,4 @@ indexBelow (negsuc n) limit = Outside
 -- the semaphore that a call goes on with, or the refusal that its first two checks give, whatever else the call checks and does
 abbrev pub Chosen : ℤ → List ℕ → Target → Type 0
 Chosen a bs (Used s) = (a ≡ pos s) × (s < semaphoreLimit) × Tells (λ t. isUsed t s) bs true
-Chosen a bs (Refusal n) = (t : Tables) → Stands t bs → (cs : List Check) (o : Outcome) → unless t (noSemaphore a ∷ notUsed t a ∷ cs) o ≡ refused n t
+Chosen a bs (Refusal n) = (t : Tables) → Stands t bs → (cs : List Check) (o : Outcome) → unless (λ m. refused m t) (noSemaphore a ∷ notUsed t a ∷ cs) o ≡ refused n t

@@ -4,3 +4,4 @@ pub mod Counts
 pub mod Row
 pub mod Release
 pub mod Search
+pub mod Unused

@@ -15,12 +15,13 @@ use rules::Answer;
 ghost use mathlib.Core.Path.{_≡_};
 ghost use lib.ListN.{length};
 ghost use Rattle.layout.specs.Offsets.{size};
-ghost use Rattle.rules.specs.Enter.{spare as unusedArgument, numbered};
+ghost use Rattle.rules.specs.Enter.{numbered};
+ghost use Rattle.kernel.specs.Unused.{unused};
 ghost use Rattle.kernel.specs.Meets.{Meets};
 
 // An argument that the call doesn't use isn't 0.
 fn spare(number: u8, a: i32, b: i32) -> bool
-    ensures { λ r. ⌜ r ≡ unusedArgument number a b ⌝ }
+    ensures { λ r. ⌜ r ≡ unused number a b ⌝ }
 {
     if number == 5 {
         return false;

@@ -1,6 +1,6 @@
 -- One call keeps every account right. Assumes nothing.
 use Prim.Native.Nat.{ℕ}
-use mathlib.Core.Bool.{Bool, true, false, not, _||_}
+use mathlib.Core.Bool.{Bool, true, false}
 use mathlib.Core.List.{List, [], _∷_}
 use mathlib.Core.Option.{Option, none, some}
 use mathlib.Core.Path.{_≡_, refl, sym, ap, subst, _∙_}
@@ -8,23 +8,22 @@ use lib.Dec.{eqb, ltb}
 use lib.IntN.{ℤ, sucℤ, natAbs}
 use borrow.Author.Tests.{eqb-true, eqb-false}
 use Rattle.lists.specs.Lists.{if_then_else_, without}
-use Rattle.tables.specs.declared.State.{State}
-use Rattle.tables.specs.declared.State.the-variants.{Free, Current, Ready, Suspended, Waiting}
+use Rattle.tables.specs.declared.State.the-variants.{Waiting}
 use Rattle.tables.specs.declared.Tables.{Tables}
-use Rattle.tables.specs.States.{waitsOn}
+use Rattle.tables.specs.States.{awaits, isThe, waitsOn}
 use Rattle.tables.specs.Readers.{stateOf, isUsed, countOf, queue, currentOf}
 use Rattle.tables.specs.Sound.{Sound}
+use Rattle.tables.proofs.States.{awaits-some}
 use Rattle.tables.proofs.LineLaws.{in-line-live}
 use Rattle.tables.proofs.Sentences.{waiter-used, sentences}
-use Rattle.rules.specs.Answers.{_when_}
-use Rattle.rules.specs.Calls.{Call, Wait, Signal, MakeSemaphore, Delete, Reset, MakeProcess, Resume, Suspend, Kill, Yield, Count, checks, deed, finish, step}
-use Rattle.rules.specs.Enter.{callOf, spare, numbered}
-use Rattle.rules.specs.Telling.{Accepted}
+use Rattle.rules.specs.Answers.{_when_, refused}
+use Rattle.rules.specs.Calls.{Call, Wait, Signal, MakeSemaphore, Delete, Reset, MakeProcess, Resume, Suspend, Kill, Yield, Count, deed, finish, step}
+use Rattle.rules.specs.Enter.{Form, formOf, callOf, spare, formed, numbered}
 use Rattle.rules.proofs.Resched.{Settled}
 use Rattle.rules.proofs.Effects.{Shows, Effect, settled-shows}
-use Rattle.rules.proofs.Refusals.{unless-cases}
-use Rattle.rules.proofs.Does.{KillDoes, Does, used, does}
-use Rattle.promises.specs.Record.{Account, stillBlocked, among, opened, waited, signalled, killed, change, noted, answered}
+use Rattle.rules.proofs.Refusals.{unless-cases, step-cases}
+use Rattle.rules.proofs.Changes.{changeOf, Loses, Becomes, Allowed, call-changes}
+use Rattle.promises.specs.Record.{Request, made, Account, stillBlocked, among, opened, waited, signalled, killed, change, noted, answered, entered}
 use Rattle.promises.proofs.Accounts.{Agrees, agrees-waited, agrees-signalled, agrees-killed, agrees-spared}
 
 -- the account is the one of semaphore r in t
@@ -54,8 +53,8 @@ unfolding stillBlocked
 agrees-opened c = (refl, refl)
 
 module _ {t : Tables} (S : Sound t) where
-  in-use : (a : ℤ) → not (isUsed t (natAbs a)) ≡ false → (old : Option Account) → Agree t (natAbs a) old → Agrees true (countOf t (natAbs a)) (queue t (natAbs a)) old
-  in-use a h old k = subst (λ (b : Bool). Agrees b (countOf t (natAbs a)) (queue t (natAbs a)) old) (used S a h) k
+  in-use : (s : ℕ) → isUsed t s ≡ true → (old : Option Account) → Agree t s old → Agrees true (countOf t s) (queue t s) old
+  in-use s u old k = subst (λ (b : Bool). Agrees b (countOf t s) (queue t s) old) u k
 
   -- who waits elsewhere, or nowhere, isn't in the queue
   absent : (p r : ℕ) → waitsOn r (stateOf t p) ≡ false → among p (queue t r) ≡ false
@@ -64,49 +63,59 @@ module _ {t : Tables} (S : Sound t) where
   kill-other : {t′ : Tables} (p : ℕ) → ((r : ℕ) → waitsOn r (stateOf t p) ≡ false) → Settled t t′ → (r : ℕ) (old : Option Account) → Agree t r old → Agree t′ r (change (killed p) old)
   kill-other p hw g r old a = agree-shows (change (killed p) old) (settled-shows g r) (agrees-spared (isUsed t r) (countOf t r) (queue t r) p old (absent p r (hw r)) a)
 
-  -- a kill, by the state of the process
-  kill-agree : (t′ : Tables) (p : ℕ) (st : State) → stateOf t p ≡ st → KillDoes t p st t′ → (r : ℕ) (old : Option Account) → Agree t r old → Agree t′ r (change (killed p) old)
-  kill-agree t′ p Free e g r old a = kill-other p (λ r. ap (waitsOn r) e) g r old a
-  kill-agree t′ p Current e g r old a = kill-other p (λ r. ap (waitsOn r) e) g r old a
-  kill-agree t′ p Ready e g r old a = kill-other p (λ r. ap (waitsOn r) e) g r old a
-  kill-agree t′ p Suspended e g r old a = kill-other p (λ r. ap (waitsOn r) e) g r old a
-  kill-agree t′ p (Waiting s) e E r old a = go (eqb s r) refl
+  -- a kill, by the semaphore that the process waits on
+  kill-agree : (t′ : Tables) (p : ℕ) (w : Option ℕ) → awaits (stateOf t p) ≡ w → Loses t p w t′ → (r : ℕ) (old : Option Account) → Agree t r old → Agree t′ r (change (killed p) old)
+  kill-agree t′ p none e g r old a = kill-other p (λ r. ap (isThe r) e) g r old a
+  kill-agree t′ p (some s) e E r old a = go (eqb s r) refl
     where
+      here : stateOf t p ≡ Waiting s
+      here = awaits-some (stateOf t p) s e
+
       among-them : among p (queue t s) ≡ true
-      among-them = ap (ltb 0) (sentences S .queuedOnce p s e)
+      among-them = ap (ltb 0) (sentences S .queuedOnce p s here)
 
       go : (b : Bool) → eqb s r ≡ b → Agree t′ r (change (killed p) old)
       go true d =
           subst (λ (n : ℕ). Agree t′ n (change (killed p) old)) (eqb-true s r d)
           (agree-shows (change (killed p) old) (E .here)
-          (subst (λ (b : Bool). Agrees b (sucℤ (countOf t s)) (without p (queue t s)) (change (killed p) old)) (waiter-used S p s e)
+          (subst (λ (b : Bool). Agrees b (sucℤ (countOf t s)) (without p (queue t s)) (change (killed p) old)) (waiter-used S p s here)
           (agrees-killed (isUsed t s) (countOf t s) (queue t s) p old among-them (subst (λ (n : ℕ). Agree t n old) (sym (eqb-true s r d)) a))))
       go false d =
           agree-shows (change (killed p) old) (E .elsewhere r (λ c. eqb-false s r d (sym c)))
-          (agrees-spared (isUsed t r) (countOf t r) (queue t r) p old (absent p r (ap (waitsOn r) e ∙ d)) a)
+          (agrees-spared (isUsed t r) (countOf t r) (queue t r) p old (absent p r (ap (isThe r) e ∙ d)) a)
 
-  does-agree : (c : Call) (t′ : Tables) → Accepted t c → Does t c t′ → (r : ℕ) (old : Option Account) → Agree t r old → Agree t′ r (noted r (currentOf t) c (deed t c .value) old)
-  does-agree (Wait a) t′ k E = effect-agree E (change (waited (currentOf t))) (λ old h. agrees-waited (countOf t (natAbs a)) (queue t (natAbs a)) (currentOf t) old (in-use a (k .1 .0) old h))
-  does-agree (Signal a) t′ k E = effect-agree E (change signalled) (λ old h. agrees-signalled (countOf t (natAbs a)) (queue t (natAbs a)) old (in-use a (k .1 .0) old h))
-  does-agree (MakeSemaphore a) t′ k E = effect-agree E (λ old. some (opened a)) (λ old h. agrees-opened a)
-  does-agree (Delete a) t′ k E = effect-agree E (λ old. none) (λ old h. tt)
-  does-agree (Reset a b) t′ k E = effect-agree E (λ old. some (opened b)) (λ old h. agrees-opened b)
-  does-agree (MakeProcess a) t′ k g = settled-agree g
-  does-agree (Resume a) t′ k g = settled-agree g
-  does-agree (Suspend a) t′ k g = settled-agree g
-  does-agree (Kill a) t′ k g = kill-agree t′ (natAbs a) (stateOf t (natAbs a)) refl g
-  does-agree Yield t′ k g = settled-agree g
-  does-agree (Count a) t′ k g = settled-agree g
+  -- by call, as the record is: this ties what the rules change to what the record says
+  call-agrees : (c : Call) (t′ : Tables) → Allowed t (changeOf t c) × Becomes t (changeOf t c) t′ → (r : ℕ) (old : Option Account) → Agree t r old → Agree t′ r (noted r (currentOf t) c (deed t c .value) old)
+  call-agrees (Wait a) t′ (k, E) = effect-agree E (change (waited (currentOf t))) (λ old h. agrees-waited (countOf t (natAbs a)) (queue t (natAbs a)) (currentOf t) old (in-use (natAbs a) k old h))
+  call-agrees (Signal a) t′ ((k, m), E) = effect-agree E (change signalled) (λ old h. agrees-signalled (countOf t (natAbs a)) (queue t (natAbs a)) old (in-use (natAbs a) k old h))
+  call-agrees (MakeSemaphore a) t′ (k, E) = effect-agree E (λ old. some (opened a)) (λ old h. agrees-opened a)
+  call-agrees (Delete a) t′ (k, E) = effect-agree E (λ old. none) (λ old h. tt)
+  call-agrees (Reset a b) t′ (k, E) = effect-agree E (λ old. some (opened b)) (λ old h. agrees-opened b)
+  call-agrees (MakeProcess a) t′ (k, g) = settled-agree g
+  call-agrees (Resume a) t′ (k, g) = settled-agree g
+  call-agrees (Suspend a) t′ (k, g) = settled-agree g
+  call-agrees (Kill a) t′ (k, g) = kill-agree t′ (natAbs a) (awaits (stateOf t (natAbs a))) refl g
+  call-agrees Yield t′ (k, g) = settled-agree g
+  call-agrees (Count a) t′ (k, g) = settled-agree g
 
   -- refusals keep what they find
   step-agree : (c : Call) (r : ℕ) (old : Option Account) → Agree t r old → Agree (step t c .tables) r (answered r (currentOf t) c (step t c .answer) old)
-  unfolding step
   step-agree c r old h =
-      unless-cases t (λ o. Agree (o .tables) r (answered r (currentOf t) c (o .answer) old)) (λ n. h) (checks t c) (finish (deed t c))
-      (λ k. does-agree c (finish (deed t c) .tables) k (does S c k) r old h)
+      step-cases t (λ o. Agree (o .tables) r (answered r (currentOf t) c (o .answer) old)) (λ n. h) c
+      (λ k. call-agrees c (finish (deed t c) .tables) (call-changes S c k) r old h)
 
-  pub numbered-agree : (n : ℕ) (a b : ℤ) (r : ℕ) (old : Option Account) → Agree t r old → Agree (numbered t n a b .tables) r (answered r (currentOf t) (callOf n a b) (numbered t n a b .answer) old)
+  pub numbered-agree : (q : Request) (r : ℕ) (old : Option Account) → Agree t r old → Agree (made t q .tables) r (entered r (record { caller = currentOf t; request = q; answer = made t q .answer }) (formOf (q .number)) old)
   unfolding numbered
-  numbered-agree n a b r old h =
-      unless-cases t (λ o. Agree (o .tables) r (answered r (currentOf t) (callOf n a b) (o .answer) old)) (λ m. h) ((13 when ltb n 1 || ltb 11 n) ∷ (14 when spare n a b) ∷ []) (step t (callOf n a b))
-      (λ k. step-agree (callOf n a b) r old h)
+  numbered-agree q r old h = go (formOf (q .number))
+    where
+      a : ℤ
+      a = q .a
+
+      b : ℤ
+      b = q .b
+
+      go : (f : Option Form) → Agree (formed t f a b .tables) r (entered r (record { caller = currentOf t; request = q; answer = formed t f a b .answer }) f old)
+      go none = h
+      go (some f) =
+          unless-cases (λ m. refused m t) (λ o. Agree (o .tables) r (answered r (currentOf t) (callOf f a b) (o .answer) old)) (λ m. h) ((14 when spare f a b) ∷ []) (step t (callOf f a b))
+          (λ k. step-agree (callOf f a b) r old h)

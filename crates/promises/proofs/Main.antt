@@ -48,7 +48,7 @@ module _ {start : Tables} (st : Start start) where
       let i : Invariant (after start earlier) (recordOf start earlier) = invariant earlier in
       record {
         sound = sound-numbered (i .sound) (q .number) (q .a) (q .b);
-        agrees = λ r. numbered-agree (i .sound) (q .number) (q .a) (q .b) r (account r (recordOf start earlier)) (i .agrees r);
+        agrees = λ r. numbered-agree (i .sound) q r (account r (recordOf start earlier)) (i .agrees r);
       }
 
 -- What the demand says

@@ -14,7 +14,7 @@ use Rattle.rules.specs.declared.Answer.{Answer}
 use Rattle.rules.specs.declared.Answer.the-variants.{Done, Refused}
 use Rattle.rules.specs.declared.Outcome.{Outcome}
 use Rattle.rules.specs.Calls.{Call, Wait, Signal, MakeSemaphore, Delete, Reset, MakeProcess, Resume, Suspend, Kill, Yield, Count, below0}
-use Rattle.rules.specs.Enter.{callOf, numbered}
+use Rattle.rules.specs.Enter.{Form, formOf, callOf, numbered}
 
 -- a call by its number, and its two arguments
 pub record Request : Type 0 where
@@ -120,10 +120,15 @@ abbrev pub answered : ℕ → ℕ → Call → Answer → Option Account → Opt
 answered s p c (Done v) old = noted s p c v old
 answered s p c (Refused n) old = old
 
+-- and so do numbers that no call has
+abbrev pub entered : ℕ → Entry → Option Form → Option Account → Option Account
+entered s e none old = old
+entered s e (some f) old = answered s (e .caller) (callOf f (e .request .a) (e .request .b)) (e .answer) old
+
 -- what a record says of semaphore s; the latest entry comes first
 unfoldable pub account : ℕ → List Entry → Option Account
 account s [] = none
-account s (e ∷ earlier) = answered s (e .caller) (callOf (e .request .number) (e .request .a) (e .request .b)) (e .answer) (account s earlier)
+account s (e ∷ earlier) = entered s e (formOf (e .request .number)) (account s earlier)
 
 -- The tables and the record after any list of requests, the latest first
 

@@ -12,8 +12,9 @@ use borrow.Author.Tests.{eqb-true, eqb-false}
 use Rattle.tables.specs.declared.State.{State}
 use Rattle.tables.specs.declared.Semaphore.{Semaphore}
 use Rattle.tables.specs.declared.Tables.{Tables}
+use Rattle.tables.specs.Limits.{processLimit, semaphoreLimit}
 use Rattle.tables.specs.Readers.{freeSemaphore, semaphore, isUsed, countOf, line, queue}
-use Rattle.tables.specs.Setters.{withSemaphore}
+use Rattle.tables.specs.Setters.{withCursors, withSemaphores, withSemaphore}
 use Rattle.tables.specs.Sound.{Laid, Counted, Running, Sound}
 use Rattle.rules.specs.Calls.{Deed, finish}
 use Rattle.rules.proofs.Resched.{Settled, Prepared, finished}
@@ -59,20 +60,13 @@ pub line-entry : (t : Tables) (s : ℕ) (x : Semaphore) (test : State → Bool) 
 unfolding line
 line-entry t s x test = refl
 
-pub laid-entry : {t : Tables} → Laid t → (s : ℕ) (x : Semaphore) → Laid (withSemaphore t s x)
+-- laid tables stay so where the slots and the row are kept
+pub laid-kept : {t : Tables} → Laid t → (xs : List Semaphore) (s p : ℕ) → length xs ≡ semaphoreLimit → s < semaphoreLimit → p < processLimit → Laid (withCursors (withSemaphores t xs) s p)
 unfolding line
-laid-entry {t} l s x =
-    record {
-      slots = l .slots;
-      entries = length-set (t .semaphores) s x ∙ l .entries;
-      places = l .places;
-      order = l .order;
-      falling = l .falling;
-      idle = l .idle;
-      free = l .free;
-      live = l .live;
-      cursors = l .cursors;
-    }
+laid-kept l xs s p h hs hp = record { slots = l .slots; entries = h; places = l .places; order = l .order; falling = l .falling; slot = l .slot; cursors = (hs, hp) }
+
+pub laid-entry : {t : Tables} → Laid t → (s : ℕ) (x : Semaphore) → Laid (withSemaphore t s x)
+laid-entry {t} l s x = laid-kept l (set (t .semaphores) s x) (t .«next_semaphore») (t .«next_process») (length-set (t .semaphores) s x ∙ l .entries) (l .cursors .0) (l .cursors .1)
 
 pub running-entry : {t : Tables} → Running t → (s : ℕ) (x : Semaphore) → Running (withSemaphore t s x)
 unfolding line

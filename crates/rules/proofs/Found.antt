@@ -14,25 +14,23 @@ use Rattle.lists.specs.Numbers.{FirstFrom}
 use Rattle.lists.proofs.Bools.{not-true}
 use Rattle.lists.proofs.RoundLaws.{found}
 use Rattle.tables.specs.declared.State.{State}
-use Rattle.tables.specs.declared.State.the-variants.{Suspended}
 use Rattle.tables.specs.declared.Process.{Process}
 use Rattle.tables.specs.declared.Semaphore.{Semaphore}
 use Rattle.tables.specs.declared.Tables.{Tables}
 use Rattle.tables.specs.Limits.{processLimit, semaphoreLimit, priorityLimit}
 use Rattle.tables.specs.States.{isFree, isCurrent, isReady, waitsOn}
 use Rattle.tables.specs.Readers.{stateOf, isUsed, line, queue}
-use Rattle.tables.specs.Setters.{withCursors, withProcess, withSemaphore}
+use Rattle.tables.specs.Setters.{newSlot, withCursors, withProcess, withSemaphore}
 use Rattle.tables.specs.Sound.{Laid, Counted, Running, Sound}
 use Rattle.tables.proofs.States.{free-not-current, free-not-ready, free-no-waiter}
+use Rattle.tables.proofs.SlotLaws.{new-sound}
 use Rattle.rules.specs.Calls.{freeSemaphores, freeSlots, onePast, newSemaphore, newProcess}
-use Rattle.rules.proofs.Resched.{Settled}
-use Rattle.rules.proofs.Effects.{Effect, line-entry, laid-entry, running-entry, effect-entry}
-use Rattle.rules.proofs.Slots.{laid-set, running-set, queue-set}
+use Rattle.rules.proofs.Resched.{Settled, line-kept}
+use Rattle.rules.proofs.Effects.{Effect, line-entry, laid-kept, laid-entry, running-entry, effect-entry}
+use Rattle.rules.proofs.Slots.{set-moved, laid-set, running-set}
 
 pub laid-cursors : {t : Tables} → Laid t → (s p : ℕ) → s < semaphoreLimit → p < processLimit → Laid (withCursors t s p)
-unfolding line
-laid-cursors l s p hs hp =
-    record { slots = l .slots; entries = l .entries; places = l .places; order = l .order; falling = l .falling; idle = l .idle; free = l .free; live = l .live; cursors = (hs, hp) }
+laid-cursors {t} l s p hs hp = laid-kept l (t .semaphores) s p (l .entries) hs hp
 
 pub running-cursors : {t : Tables} → Running t → (s p : ℕ) → Running (withCursors t s p)
 unfolding line
@@ -53,17 +51,17 @@ module _ {t : Tables} (S : Sound t) where
   pub make-process-settled : (n : ℕ) → (1 ≤ n) × (n ≤ priorityLimit) → isEmpty (freeSlots t) ≡ false → Settled t (newProcess t (first (freeSlots t)) n .tables)
   make-process-settled n hn h =
       record {
-        laid = laid-cursors (laid-set (S .laid) p below hz y refl (λ k. absurd (true≢false (sym (ap isFree k)))) (λ k. hn)) (t .«next_semaphore») (onePast processLimit p) (S .laid .cursors .0) (past-below processLimit p below);
-        running = running-cursors (running-set (S .laid) p below hz y refl (S .running) (free-not-current (stateOf t p) free) refl) (t .«next_semaphore») (onePast processLimit p);
+        laid = laid-cursors (laid-set (S .laid) p below y refl (new-sound p n (λ e. hz (sym e)) hn)) (t .«next_semaphore») (onePast processLimit p) (S .laid .cursors .0) (past-below processLimit p below);
+        running = running-cursors (running-set (S .laid) p below y refl hz (S .running) (free-not-current (stateOf t p) free) refl) (t .«next_semaphore») (onePast processLimit p);
         semaphores = refl;
-        queues = λ r. line-cursors (withProcess t p y) (t .«next_semaphore») (onePast processLimit p) (waitsOn r) ∙ queue-set (S .laid) p below y r refl (free-no-waiter (stateOf t p) r free);
+        queues = λ r. line-cursors (withProcess t p y) (t .«next_semaphore») (onePast processLimit p) (waitsOn r) ∙ line-kept (set-moved (S .laid) p below y refl) (waitsOn r) refl (free-no-waiter (stateOf t p) r free);
       }
     where
       p : ℕ
       p = first (freeSlots t)
 
       y : Process
-      y = record { state = Suspended; priority = n }
+      y = newSlot n
 
       is : FirstFrom (λ x. isFree (stateOf t x)) processLimit (t .«next_process») p
       is = found (λ x. isFree (stateOf t x)) processLimit (t .«next_process») (S .laid .cursors .1) h

@@ -15,26 +15,27 @@ use Rattle.tables.specs.declared.State.the-variants.{Ready, Waiting}
 use Rattle.tables.specs.declared.Process.{Process}
 use Rattle.tables.specs.declared.Tables.{Tables}
 use Rattle.tables.specs.States.{isReady, waitsOn}
-use Rattle.tables.specs.Readers.{freeSlot, stateOf, priorityOf, line, readyList, queue}
+use Rattle.tables.specs.Readers.{freeSlot, process, stateOf, line, readyList, queue}
+use Rattle.tables.specs.Setters.{inState}
 use Rattle.rules.specs.Schedule.{joining, readyBefore, makeWait}
 
 -- p joins a line
 
 module _ (t : Tables) (p : ℕ) (before : ℕ → Bool) (st : State) (test : State → Bool) (hp : p < length (t .processes)) (once : times p (t .order) ≡ 1) where
-  pub joined-same : stateOf (joining t p before st) p ≡ st
+  pub joined-same : process (joining t p before st) p ≡ inState st (process t p)
   unfolding joining
-  joined-same = ap (λ (r : Process). r .state) (getD-set-same (t .processes) p (record { state = st; priority = priorityOf t p }) freeSlot hp)
+  joined-same = getD-set-same (t .processes) p (inState st (process t p)) freeSlot hp
 
-  pub joined-other : (x : ℕ) → x ≢ p → stateOf (joining t p before st) x ≡ stateOf t x
+  pub joined-other : (x : ℕ) → x ≢ p → process (joining t p before st) x ≡ process t x
   unfolding joining
-  joined-other x h = ap (λ (r : Process). r .state) (getD-set-other (t .processes) p x (record { state = st; priority = priorityOf t p }) freeSlot h)
+  joined-other x h = getD-set-other (t .processes) p x (inState st (process t p)) freeSlot h
 
   test-join : (x : ℕ) → (not (eqb x p) && test (stateOf (joining t p before st) x)) ≡ (test (stateOf t x) && not (eqb x p))
   test-join x = go (eqb x p) refl
     where
       go : (b : Bool) → eqb x p ≡ b → (not b && test (stateOf (joining t p before st) x)) ≡ (test (stateOf t x) && not b)
       go true e = sym (and-false (test (stateOf t x)))
-      go false e = ap test (joined-other x (eqb-false x p e)) ∙ sym (and-true (test (stateOf t x)))
+      go false e = ap (λ (r : Process). test (r .state)) (joined-other x (eqb-false x p e)) ∙ sym (and-true (test (stateOf t x)))
 
   rest : filter (λ x. test (stateOf (joining t p before st) x)) (without p (t .order)) ≡ without p (line t test)
   unfolding line
@@ -45,7 +46,7 @@ module _ (t : Tables) (p : ℕ) (before : ℕ → Bool) (st : State) (test : Sta
   unfolding line joining
   line-join-other h =
       ap (filter now) (place-is before p (t .order) once)
-      ∙ filter-putBefore-no now before p (without p (t .order)) (ap test joined-same ∙ h)
+      ∙ filter-putBefore-no now before p (without p (t .order)) (ap (λ (r : Process). test (r .state)) joined-same ∙ h)
       ∙ rest
     where
       now : ℕ → Bool
@@ -56,8 +57,8 @@ module _ (t : Tables) (p : ℕ) (before : ℕ → Bool) (st : State) (test : Sta
   unfolding line joining
   line-join low h k =
       ap (filter now) (place-is before p (t .order) once)
-      ∙ ap (filter now) (putBefore-ext before (λ x. now x && low x) p (t .order) (λ x n. k x ∙ ap (λ (st : State). test st && low x) (sym (joined-other x n))))
-      ∙ filter-putBefore-yes now (λ x. now x && low x) low p (without p (t .order)) (ap test joined-same ∙ h) (λ x. refl)
+      ∙ ap (filter now) (putBefore-ext before (λ x. now x && low x) p (t .order) (λ x n. k x ∙ ap (λ (r : Process). test (r .state) && low x) (sym (joined-other x n))))
+      ∙ filter-putBefore-yes now (λ x. now x && low x) low p (without p (t .order)) (ap (λ (r : Process). test (r .state)) joined-same ∙ h) (λ x. refl)
       ∙ ap (putBefore low p) rest
     where
       now : ℕ → Bool

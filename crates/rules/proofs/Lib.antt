@@ -7,13 +7,7 @@ pub mod Release
 pub mod Slots
 pub mod Found
 pub mod Refusals
-pub mod Does
+pub mod Changes
 pub mod Kept
 pub mod Fits
 pub mod Numbers
-pub mod Session
-pub mod Seats
-pub mod Cursors
-pub mod Others
-pub mod Telling
-pub mod Told

@@ -1,72 +1,72 @@
 -- The calls by their numbers, and what stands before a call's own checks. Assumes nothing.
-use Prim.Native.Nat.{ℕ}
-use mathlib.Core.Bool.{true, false, not, _||_, and-false}
+use Prim.Native.Nat.{ℕ, zero, suc, _≤_, _<_}
+use native.Mathlib.Omega.{arith}
+use mathlib.Core.Bool.{true, false}
+use mathlib.Core.List.{List, [], _∷_}
+use mathlib.Core.Option.{none, some}
 use mathlib.Core.Path.{_≡_, refl}
-use lib.Dec.{ltb}
 use lib.IntN.{ℤ, pos}
+use lib.ListN.{length}
 use Rattle.tables.specs.declared.Tables.{Tables}
 use Rattle.tables.specs.Readers.{currentOf}
 use Rattle.tables.specs.Sound.{Sound}
 use Rattle.tables.specs.Test.{soundNow}
 use Rattle.tables.proofs.TestLaws.{sound-checked}
 use Rattle.rules.specs.Answers.{refused}
-use Rattle.rules.specs.Calls.{Wait, Signal, MakeSemaphore, Delete, Reset, MakeProcess, Resume, Suspend, Kill, Yield, Count, step}
-use Rattle.rules.specs.Enter.{isZero, spare, numbered, enter}
+use Rattle.rules.specs.Calls.{Call, step}
+use Rattle.rules.specs.Enter.{Form, neither, first, both, forms, lineOf, formOf, callOf, spare, numbered, enter}
+
+-- past the end of a list there is no line
+no-line : (fs : List Form) (n : ℕ) → length fs ≤ n → lineOf fs n ≡ none
+no-line [] n h = refl
+no-line (f ∷ fs) zero h = absurd (omega arith)
+no-line (f ∷ fs) (suc n) h = no-line fs n (omega arith)
+
+-- a number from 1 to the end has one
+a-line : (fs : List Form) (n : ℕ) → n < length fs → (f : Form) × (lineOf fs n ≡ some f)
+a-line [] n h = absurd (omega arith)
+a-line (f ∷ fs) zero h = (f, refl)
+a-line (f ∷ fs) (suc n) h = a-line fs n (omega arith)
+
+pub number-known : (n : ℕ) → 1 ≤ n → n ≤ length forms → (f : Form) × (formOf n ≡ some f)
+number-known zero l h = absurd (omega arith)
+number-known (suc n) l h = a-line forms n (omega arith)
 
 module _ (t : Tables) (a : ℤ) where
-  pub number-wait : numbered t 1 a (pos 0) ≡ step t (Wait a)
-  unfolding numbered
-  number-wait = rw (and-false (not (isZero a)))
+  -- the call with this number, by the arguments that it uses
 
-  pub number-signal : numbered t 2 a (pos 0) ≡ step t (Signal a)
+  pub number-neither : (n : ℕ) (c : Call) → formOf n ≡ some (neither c) → numbered t n (pos 0) (pos 0) ≡ step t c
   unfolding numbered
-  number-signal = rw (and-false (not (isZero a)))
+  number-neither n c e = rw e
 
-  pub number-make-semaphore : numbered t 3 a (pos 0) ≡ step t (MakeSemaphore a)
+  pub number-first : (n : ℕ) (c : ℤ → Call) → formOf n ≡ some (first c) → numbered t n a (pos 0) ≡ step t (c a)
   unfolding numbered
-  number-make-semaphore = rw (and-false (not (isZero a)))
+  number-first n c e = rw e
 
-  pub number-delete : numbered t 4 a (pos 0) ≡ step t (Delete a)
+  pub number-both : (b : ℤ) (n : ℕ) (c : ℤ → ℤ → Call) → formOf n ≡ some (both c) → numbered t n a b ≡ step t (c a b)
   unfolding numbered
-  number-delete = rw (and-false (not (isZero a)))
+  number-both b n c e = rw e
 
-  pub number-reset : (b : ℤ) → numbered t 5 a b ≡ step t (Reset a b)
-  unfolding numbered
-  number-reset b = rw (and-false (not (isZero b)), and-false (not (isZero a)))
+  -- any other number, 0 or past the list: 13, whatever the arguments
 
-  pub number-make-process : numbered t 6 a (pos 0) ≡ step t (MakeProcess a)
+  pub number-zero : (b : ℤ) → numbered t 0 a b ≡ refused 13 t
   unfolding numbered
-  number-make-process = rw (and-false (not (isZero a)))
+  number-zero b = refl
 
-  pub number-resume : numbered t 7 a (pos 0) ≡ step t (Resume a)
+  pub number-past : (b : ℤ) (n : ℕ) → length forms < n → numbered t n a b ≡ refused 13 t
   unfolding numbered
-  number-resume = rw (and-false (not (isZero a)))
-
-  pub number-suspend : numbered t 8 a (pos 0) ≡ step t (Suspend a)
-  unfolding numbered
-  number-suspend = rw (and-false (not (isZero a)))
-
-  pub number-kill : numbered t 9 a (pos 0) ≡ step t (Kill a)
-  unfolding numbered
-  number-kill = rw (and-false (not (isZero a)))
-
-  pub number-yield : numbered t 10 (pos 0) (pos 0) ≡ step t Yield
-  unfolding numbered
-  number-yield = refl
-
-  pub number-count : numbered t 11 a (pos 0) ≡ step t (Count a)
-  unfolding numbered
-  number-count = rw (and-false (not (isZero a)))
-
-  -- any other number: 13, whatever the arguments
-  pub number-unknown : (b : ℤ) (n : ℕ) → (ltb n 1 || ltb 11 n) ≡ true → numbered t n a b ≡ refused 13 t
-  unfolding numbered
-  number-unknown b n h = rw h
+  number-past b zero h = refl
+  number-past b (suc n) h = rw (no-line forms n (omega arith)) refl
 
   -- an argument that the call doesn't use isn't 0: 14, before the call's own checks
-  pub number-spare : (b : ℤ) (n : ℕ) → (ltb n 1 || ltb 11 n) ≡ false → spare n a b ≡ true → numbered t n a b ≡ refused 14 t
+  pub number-spare : (b : ℤ) (n : ℕ) (f : Form) → formOf n ≡ some f → spare f a b ≡ true → numbered t n a b ≡ refused 14 t
   unfolding numbered
-  number-spare b n h k = rw (h, k)
+  number-spare b n f e k = rw (e, k)
+
+  -- else the call
+  pub number-goes : (b : ℤ) (n : ℕ) (f : Form) → formOf n ≡ some f → spare f a b ≡ false → numbered t n a b ≡ step t (callOf f a b)
+  unfolding numbered
+  number-goes b n f e k = rw (e, k)
 
   -- sound tables are called so, and the process that runs then is told
   pub enter-sound : (b : ℤ) (n : ℕ) → Sound t → (enter t n a b .outcome ≡ numbered t n a b) × (enter t n a b .running ≡ currentOf (numbered t n a b .tables))

@@ -1,61 +1,91 @@
 -- A call is refused by the first check that holds, and then nothing changes; or no check holds, and it is done. Assumes nothing.
-use Prim.Native.Nat.{_≤_, ℕ}
+use Prim.Native.Nat.{_≤_, zero, suc, ℕ}
 use native.Mathlib.Omega.{arith}
-use mathlib.Core.Bool.{Bool, _||_, false, true}
+use mathlib.Core.Bool.{Bool, false, true}
 use mathlib.Core.List.{List, [], _++_, _∷_}
-use mathlib.Core.Path.{_∙_, _≡_, ap, refl}
-use lib.Dec.{ltb}
+use mathlib.Core.Option.{Option, none, some, Option·none-ne-some, Option·some-injective}
+use mathlib.Core.Path.{_∙_, _≡_, ap, refl, subst}
 use lib.IntN.{ℤ}
 use Rattle.lists.specs.Lists.{if_then_else_}
 use Rattle.tables.specs.declared.Tables.{Tables}
 use Rattle.rules.specs.declared.Answer.the-variants.{Done, Refused}
 use Rattle.rules.specs.declared.Outcome.{Outcome}
-use Rattle.rules.specs.Answers.{Check, _when_, refused, unless}
-use Rattle.rules.specs.Calls.{Call, Count, Deed, Delete, Kill, MakeProcess, MakeSemaphore, Reset, Resume, Signal, Suspend, Wait, Yield, checks, deed, finish, step}
-use Rattle.rules.specs.Enter.{callOf, numbered, spare}
-use Rattle.rules.specs.Telling.{Accepted, NoneHolds}
+use Rattle.rules.specs.Answers.{Check, _when_, NoneHolds, refused, unless}
+use Rattle.rules.specs.Calls.{Accepted, Call, Count, Deed, Delete, Kill, MakeProcess, MakeSemaphore, Reset, Resume, Signal, Suspend, Wait, Yield, checks, deed, finish, step}
+use Rattle.rules.specs.Enter.{Form, forms, lineOf, formOf, callOf, spare, formed, numbered}
 use Rattle.rules.specs.declared.Answer.{Answer}
 
 -- what is true of every refusal, and of what is done where no check holds, is true of the call
-pub unless-cases : (t : Tables) (P : Outcome → Type 0) → ((n : ℕ) → P (refused n t)) → (cs : List Check) (o : Outcome) → (NoneHolds cs → P o) → P (unless t cs o)
-unless-cases t P ref [] o h = h tt
-unless-cases t P ref (c ∷ cs) o h = go (c .holds) refl (λ k. unless-cases t P ref cs o (λ r. h (k, r)))
+pub unless-cases : {A : Type 0} (refuse : ℕ → A) (P : A → Type 0) → ((n : ℕ) → P (refuse n)) → (cs : List Check) (o : A) → (NoneHolds cs → P o) → P (unless refuse cs o)
+unless-cases refuse P ref [] o h = h tt
+unless-cases refuse P ref (c ∷ cs) o h = go (c .holds) refl (λ k. unless-cases refuse P ref cs o (λ r. h (k, r)))
   where
-    go : (b : Bool) → c .holds ≡ b → (c .holds ≡ false → P (unless t cs o)) → P (if b then refused (c .number) t else unless t cs o)
+    go : (b : Bool) → c .holds ≡ b → (c .holds ≡ false → P (unless refuse cs o)) → P (if b then refuse (c .number) else unless refuse cs o)
     go true e ih = ref (c .number)
     go false e ih = ih e
 
+-- a deed that goes by a test
+pub branch : (P : Deed → Type 0) (b : Bool) (x y : Deed) → (b ≡ true → P x) → (b ≡ false → P y) → P (if b then x else y)
+branch P true x y h k = h refl
+branch P false x y h k = k refl
+
 -- where no check holds the call is done
-pub unless-none : (t : Tables) (cs : List Check) (o : Outcome) → NoneHolds cs → unless t cs o ≡ o
-unless-none t [] o h = refl
-unless-none t (c ∷ cs) o (h, hs) = rw h (unless-none t cs o hs)
+pub unless-none : {A : Type 0} (refuse : ℕ → A) (cs : List Check) (o : A) → NoneHolds cs → unless refuse cs o ≡ o
+unless-none refuse [] o h = refl
+unless-none refuse (c ∷ cs) o (h, hs) = rw h (unless-none refuse cs o hs)
 
 pub step-done : (t : Tables) (c : Call) → Accepted t c → step t c ≡ finish (deed t c)
 unfolding step
-step-done t c h = unless-none t (checks t c) (finish (deed t c)) h
+step-done t c h = unless-none (λ n. refused n t) (checks t c) (finish (deed t c)) h
 
 -- the answer of what is done is no refusal
 pub finish-done : (d : Deed) (n : ℕ) → finish d .answer ≡ Refused n → ⊥
 finish-done d n e = let z : _≡_ {A = ℕ} 0 1 = cc in omega arith
 
-pub step-refused : (t : Tables) (c : Call) (n : ℕ) → step t c .answer ≡ Refused n → step t c .tables ≡ t
+-- what is true of every refusal, and of what an accepted call does, is true of the call
+pub step-cases : (t : Tables) (P : Outcome → Type 0) → ((n : ℕ) → P (refused n t)) → (c : Call) → (Accepted t c → P (finish (deed t c))) → P (step t c)
 unfolding step
-step-refused t c n = unless-cases t (λ o. o .answer ≡ Refused n → o .tables ≡ t) (λ m e. refl) (checks t c) (finish (deed t c)) (λ k e. absurd (finish-done (deed t c) n e))
+step-cases t P ref c h = unless-cases (λ n. refused n t) P ref (checks t c) (finish (deed t c)) h
+
+pub step-refused : (t : Tables) (c : Call) (n : ℕ) → step t c .answer ≡ Refused n → step t c .tables ≡ t
+step-refused t c n = step-cases t (λ o. o .answer ≡ Refused n → o .tables ≡ t) (λ m e. refl) c (λ k e. absurd (finish-done (deed t c) n e))
+
+-- what is true of every refusal, and of the call with this number if there is one, is true of the number
+pub numbered-cases : (t : Tables) (P : Outcome → Type 0) → ((m : ℕ) → P (refused m t)) → (n : ℕ) (a b : ℤ) → ((f : Form) → formOf n ≡ some f → P (step t (callOf f a b))) → P (numbered t n a b)
+unfolding numbered
+numbered-cases t P ref n a b call = go (formOf n) refl
+  where
+    go : (f : Option Form) → formOf n ≡ f → P (formed t f a b)
+    go none e = ref 13
+    go (some f) e = unless-cases (λ m. refused m t) P ref ((14 when spare f a b) ∷ []) (step t (callOf f a b)) (λ k. call f e)
 
 pub numbered-refused : (t : Tables) (n : ℕ) (a b : ℤ) (m : ℕ) → numbered t n a b .answer ≡ Refused m → numbered t n a b .tables ≡ t
-unfolding numbered
-numbered-refused t n a b m =
-    unless-cases t (λ o. o .answer ≡ Refused m → o .tables ≡ t) (λ i e. refl) ((13 when ltb n 1 || ltb 11 n) ∷ (14 when spare n a b) ∷ []) (step t (callOf n a b)) (λ k. step-refused t (callOf n a b) m)
+numbered-refused t n a b m = numbered-cases t (λ o. o .answer ≡ Refused m → o .tables ≡ t) (λ i e. refl) n a b (λ f k. step-refused t (callOf f a b) m)
+
+-- what is true of each line of the list is true of the form of a number
+
+abbrev pub AllForms : (Form → Type 0) → List Form → Type 0
+AllForms P [] = Unit
+AllForms P (f ∷ fs) = P f × AllForms P fs
+
+line-has : (P : Form → Type 0) (fs : List Form) → AllForms P fs → (n : ℕ) (f : Form) → lineOf fs n ≡ some f → P f
+line-has P [] h n f e = absurd (Option·none-ne-some f e)
+line-has P (g ∷ gs) h zero f e = subst P (Option·some-injective g f e) (h .0)
+line-has P (g ∷ gs) h (suc n) f e = line-has P gs (h .1) n f e
+
+pub form-has : (P : Form → Type 0) → AllForms P forms → (n : ℕ) (f : Form) → formOf n ≡ some f → P f
+form-has P h zero f e = absurd (Option·none-ne-some f e)
+form-has P h (suc n) f e = line-has P forms h n f e
 
 -- the first check that holds gives its number
 
-unless-first : (t : Tables) (before after : List Check) (n : ℕ) (o : Outcome) → NoneHolds before → unless t (before ++ (n when true) ∷ after) o ≡ refused n t
-unless-first t [] after n o h = refl
-unless-first t (c ∷ before) after n o (h, hs) = rw h (unless-first t before after n o hs)
+unless-first : {A : Type 0} (refuse : ℕ → A) (before after : List Check) (n : ℕ) (o : A) → NoneHolds before → unless refuse (before ++ (n when true) ∷ after) o ≡ refuse n
+unless-first refuse [] after n o h = refl
+unless-first refuse (c ∷ before) after n o (h, hs) = rw h (unless-first refuse before after n o hs)
 
 pub step-first : (t : Tables) (c : Call) (before after : List Check) (n : ℕ) → checks t c ≡ before ++ (n when true) ∷ after → NoneHolds before → step t c ≡ refused n t
 unfolding step
-step-first t c before after n e h = ap (λ (cs : List Check). unless t cs (finish (deed t c))) e ∙ unless-first t before after n (finish (deed t c)) h
+step-first t c before after n e h = ap (λ (cs : List Check). unless (λ m. refused m t) cs (finish (deed t c))) e ∙ unless-first (λ m. refused m t) before after n (finish (deed t c)) h
 
 -- Every refusal of a call on sound tables has one of the paper's numbers, 1 to 14
 
@@ -67,11 +97,11 @@ abbrev AllRanged : List Check → Type 0
 AllRanged [] = Unit
 AllRanged (c ∷ cs) = ((1 ≤ c .number) × (c .number ≤ 14)) × AllRanged cs
 
-unless-ranged : (t : Tables) (cs : List Check) (o : Outcome) → AllRanged cs → Ranged (o .answer) → Ranged (unless t cs o .answer)
+unless-ranged : (t : Tables) (cs : List Check) (o : Outcome) → AllRanged cs → Ranged (o .answer) → Ranged (unless (λ n. refused n t) cs o .answer)
 unless-ranged t [] o r h = h
 unless-ranged t (c ∷ cs) o (r, rs) h = go (c .holds) (unless-ranged t cs o rs h)
   where
-    go : (b : Bool) → Ranged (unless t cs o .answer) → Ranged ((if b then refused (c .number) t else unless t cs o) .answer)
+    go : (b : Bool) → Ranged (unless (λ n. refused n t) cs o .answer) → Ranged ((if b then refused (c .number) t else unless (λ n. refused n t) cs o) .answer)
     go true k = r
     go false k = k
 
@@ -88,8 +118,14 @@ checks-ranged t (Kill a) = ((omega arith, omega arith), ((omega arith, omega ari
 checks-ranged t Yield = tt
 checks-ranged t (Count a) = ((omega arith, omega arith), ((omega arith, omega arith), tt))
 
+step-ranged : (t : Tables) (c : Call) → Ranged (step t c .answer)
+unfolding step
+step-ranged t c = unless-ranged t (checks t c) (finish (deed t c)) (checks-ranged t c) tt
+
 pub numbered-ranged : (t : Tables) (n : ℕ) (a b : ℤ) → Ranged (numbered t n a b .answer)
-unfolding numbered step
-numbered-ranged t n a b =
-    unless-ranged t ((13 when ltb n 1 || ltb 11 n) ∷ (14 when spare n a b) ∷ []) (step t (callOf n a b)) ((omega arith, omega arith), ((omega arith, omega arith), tt))
-    (unless-ranged t (checks t (callOf n a b)) (finish (deed t (callOf n a b))) (checks-ranged t (callOf n a b)) tt)
+unfolding numbered
+numbered-ranged t n a b = go (formOf n)
+  where
+    go : (f : Option Form) → Ranged (formed t f a b .answer)
+    go none = (omega arith, omega arith)
+    go (some f) = unless-ranged t ((14 when spare f a b) ∷ []) (step t (callOf f a b)) ((omega arith, omega arith), tt) (step-ranged t (callOf f a b))

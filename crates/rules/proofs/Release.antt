@@ -20,7 +20,7 @@ use Rattle.tables.proofs.States.{waits-on}
 use Rattle.tables.proofs.LineLaws.{line-first, live-below, used-entry, in-line}
 use Rattle.rules.specs.Schedule.{makeReady, makeAllReady}
 use Rattle.rules.specs.Calls.{release, finish}
-use Rattle.rules.proofs.Moves.{Moved, ready-moved, laid-ready}
+use Rattle.rules.proofs.Moves.{Turned, ready-moved, laid-ready}
 use Rattle.rules.proofs.Resched.{Zero, line-kept, zero-moved, Prepared}
 use Rattle.rules.proofs.Effects.{Effect, line-entry, laid-entry, running-entry, effect-done}
 
@@ -44,7 +44,7 @@ all-ready s (f ∷ fs) t l z e = go (all-ready s fs (makeReady t f) (laid-ready 
     below : f < processLimit
     below = live-below l f (ap isFree waits)
 
-    m : Moved t (makeReady t f) f Ready
+    m : Turned t (makeReady t f) f Ready
     m = ready-moved l f below
 
     once : times f (f ∷ fs) ≡ 1

@@ -9,10 +9,12 @@ use lib.Dec.{eqb, ltb}
 use lib.ListN.{length}
 use borrow.Author.Tests.{ltb-true, eqb-true, eqb-false}
 use Rattle.lists.specs.Lists.{if_then_else_, without, times, firstOr, first, Falling}
+use Rattle.lists.proofs.Bools.{either}
 use Rattle.lists.proofs.ListLaws.{filter-ext, filter-only, filter-none, times-length, putBefore-some, without-only, one-or-none}
 use Rattle.lists.proofs.FallingLaws.{atMost-member}
 use Rattle.tables.specs.declared.State.{State}
 use Rattle.tables.specs.declared.State.the-variants.{Current, Ready}
+use Rattle.tables.specs.declared.Process.{Process}
 use Rattle.tables.specs.declared.Tables.{Tables}
 use Rattle.tables.specs.Limits.{processLimit}
 use Rattle.tables.specs.States.{isFree, isCurrent, isReady, waitsOn}
@@ -24,7 +26,7 @@ use Rattle.tables.proofs.LineLaws.{line-absent, line-first, live-below, live-sl
 use Rattle.rules.specs.Schedule.{readyBefore, makeReady, startFirst, switch, reschedule}
 use Rattle.rules.specs.Calls.{Deed, finish}
 use Rattle.rules.proofs.Joins.{ready-joined}
-use Rattle.rules.proofs.Moves.{Moved, moved-state, moved-join, laid-moved, falling-left, falling-ready}
+use Rattle.rules.proofs.Moves.{Moved, Turned, moved-slot, moved-join, turned-priority, laid-turned, falling-left, falling-ready}
 
 -- process 0 is current or ready
 abbrev pub Zero : Tables → Type 0
@@ -40,11 +42,11 @@ pub record Settled (t t′ : Tables) : Type 0 where
 -- Lines
 
 -- a line that neither the old state nor the new one is in
-pub line-kept : {t t′ : Tables} {p : ℕ} {st : State} → Moved t t′ p st → (test : State → Bool) → test st ≡ false → test (stateOf t p) ≡ false → line t′ test ≡ line t test
+pub line-kept : {t t′ : Tables} {p : ℕ} {y : Process} → Moved t t′ p y → (test : State → Bool) → test (y .state) ≡ false → test (stateOf t p) ≡ false → line t′ test ≡ line t test
 line-kept {t} {t′} {p} m test h k = m .leaves test h ∙ line-absent t p test k
 
 -- p becomes current where nobody is
-pub line-enter : (t : Tables) (p : ℕ) (st : State) (test : State → Bool) → Moved t (withState t p st) p st → times p (t .order) ≡ 1 → test st ≡ true → line t test ≡ [] → line (withState t p st) test ≡ p ∷ []
+pub line-enter : (t : Tables) (p : ℕ) (st : State) (test : State → Bool) → Turned t (withState t p st) p st → times p (t .order) ≡ 1 → test st ≡ true → line t test ≡ [] → line (withState t p st) test ≡ p ∷ []
 unfolding line
 line-enter t p st test m h1 h e =
     filter-ext (t .order) (λ x. go x (eqb x p) refl)
@@ -52,20 +54,16 @@ line-enter t p st test m h1 h e =
     ∙ filter-only p (t .order) h1
   where
     go : (x : ℕ) (b : Bool) → eqb x p ≡ b → test (stateOf (withState t p st) x) ≡ (b || test (stateOf t x))
-    go x true k = ap test (ap (stateOf (withState t p st)) (eqb-true x p k) ∙ m .same) ∙ h
-    go x false k = ap test (m .other x (eqb-false x p k))
+    go x true k = rw (eqb-true x p k) (ap (λ (r : Process). test (r .state)) (m .same) ∙ h)
+    go x false k = ap (λ (r : Process). test (r .state)) (m .other x (eqb-false x p k))
 
 -- Process 0
 
-pub zero-other : {t t′ : Tables} {p : ℕ} {st : State} → Moved t t′ p st → 0 ≢ p → Zero t → Zero t′
-zero-other m h z = ap (λ (st : State). isCurrent st || isReady st) (m .other 0 h) ∙ z
+pub zero-other : {t t′ : Tables} {p : ℕ} {y : Process} → Moved t t′ p y → 0 ≢ p → Zero t → Zero t′
+zero-other m h z = ap (λ (r : Process). isCurrent (r .state) || isReady (r .state)) (m .other 0 h) ∙ z
 
-pub zero-moved : {t t′ : Tables} {p : ℕ} {st : State} → Moved t t′ p st → (isCurrent st || isReady st) ≡ true → Zero t → Zero t′
-zero-moved {t} {t′} {p} {st} m h z = go (eqb 0 p) refl
-  where
-    go : (b : Bool) → eqb 0 p ≡ b → Zero t′
-    go true e = ap (λ (st : State). isCurrent st || isReady st) (ap (stateOf t′) (eqb-true 0 p e) ∙ m .same) ∙ h
-    go false e = zero-other m (eqb-false 0 p e) z
+pub zero-moved : {t t′ : Tables} {p : ℕ} {y : Process} → Moved t t′ p y → (isCurrent (y .state) || isReady (y .state)) ≡ true → Zero t → Zero t′
+zero-moved {p = p} m h z = either 0 p (λ e. rw e (ap (λ (r : Process). isCurrent (r .state) || isReady (r .state)) (m .same) ∙ h)) (λ e. zero-other m e z)
 
 -- The first of the ready list
 
@@ -83,8 +81,8 @@ module _ (t : Tables) (l : Laid t) (none : currents t ≡ []) (z : Zero t) (f : 
   f-below : f < processLimit
   f-below = live-below l f (ready-live (stateOf t f) f-ready)
 
-  f-moved : Moved t (withState t f Current) f Current
-  f-moved = moved-state t f Current (live-slot l f f-below)
+  f-moved : Turned t (withState t f Current) f Current
+  f-moved = moved-slot t f _ (live-slot l f f-below)
 
   f-current : currents (withState t f Current) ≡ f ∷ []
   f-current = line-enter t f Current isCurrent f-moved (live-once l f f-below) refl none
@@ -94,13 +92,13 @@ module _ (t : Tables) (l : Laid t) (none : currents t ≡ []) (z : Zero t) (f : 
     where
       go : (b : Bool) → eqb p f ≡ b → priorityOf t p ≤ priorityOf t f
       go true d = rw (eqb-true p f d) (omega arith)
-      go false d = ready-top l f fs e p (ap isReady (sym (f-moved .other p (eqb-false p f d)) ∙ k))
+      go false d = ready-top l f fs e p (ap isReady (ap (λ (r : Process). r .state) (sym (f-moved .other p (eqb-false p f d))) ∙ k))
 
   pub dispatch-settled : Settled t (withState t f Current)
   unfolding firstOr
   dispatch-settled =
       record {
-        laid = laid-moved l f-moved f-below refl (ready-live (stateOf t f) f-ready) (falling-left l f-moved refl);
+        laid = laid-turned l f-moved refl (ready-live (stateOf t f) f-ready) (falling-left l f-moved refl);
         running = record {
           one = ap length f-current;
           zero = zero-moved f-moved refl z;
@@ -112,8 +110,8 @@ module _ (t : Tables) (l : Laid t) (none : currents t ≡ []) (z : Zero t) (f : 
     where
       top′ : (p : ℕ) → stateOf (withState t f Current) p ≡ Ready → priorityOf (withState t f Current) p ≤ priorityOf (withState t f Current) (currentOf (withState t f Current))
       top′ p k =
-          let a : priorityOf (withState t f Current) p ≡ priorityOf t p = f-moved .priority p in
-          let b : priorityOf (withState t f Current) (currentOf (withState t f Current)) ≡ priorityOf t f = ap (λ (c : List ℕ). priorityOf (withState t f Current) (first c)) f-current ∙ f-moved .priority f in
+          let a : priorityOf (withState t f Current) p ≡ priorityOf t p = turned-priority f-moved p in
+          let b : priorityOf (withState t f Current) (currentOf (withState t f Current)) ≡ priorityOf t f = ap (λ (c : List ℕ). priorityOf (withState t f Current) (first c)) f-current ∙ turned-priority f-moved f in
           omega (arith, f-top p k)
 
 pub start-settled : (t : Tables) → Laid t → currents t ≡ [] → Zero t → (r : List ℕ) → readyList t ≡ r → r ≢ [] → Settled t (startFirst t r)
@@ -169,10 +167,10 @@ module _ (t : Tables) (l : Laid t) (few : length (currents t) ≤ 1) (z : Zero t
             omega arith;
       }
 
-  put-back : (low : ℕ → Bool) (c : ℕ) (cs : List ℕ) → currents t ≡ c ∷ cs → (c < processLimit → Falling (priorityOf t) (readyList (readyBefore low t c))) → Settled t (startFirst (readyBefore low t c) (readyList (readyBefore low t c)))
+  put-back : (low : ℕ → Bool) (c : ℕ) (cs : List ℕ) → currents t ≡ c ∷ cs → (c < processLimit → Falling (priorityOf (readyBefore low t c)) (readyList (readyBefore low t c))) → Settled t (startFirst (readyBefore low t c) (readyList (readyBefore low t c)))
   put-back low c cs k fall =
       settled-trans (m .semaphores) (λ s. line-kept m (waitsOn s) refl (current-no-waiter (stateOf t c) s here))
-      (start-settled (readyBefore low t c) (laid-moved l m below refl live (fall below)) gone (zero-moved m refl z) (readyList (readyBefore low t c)) refl
+      (start-settled (readyBefore low t c) (laid-turned l m refl live (fall below)) gone (zero-moved m refl z) (readyList (readyBefore low t c)) refl
       (λ h. putBefore-some low c (without c (readyList t)) (sym (ready-joined low t c (live-slot l c below) (live-once l c below)) ∙ h)))
     where
       here : isCurrent (stateOf t c) ≡ true
@@ -184,7 +182,7 @@ module _ (t : Tables) (l : Laid t) (few : length (currents t) ≤ 1) (z : Zero t
       below : c < processLimit
       below = live-below l c live
 
-      m : Moved t (readyBefore low t c) c Ready
+      m : Turned t (readyBefore low t c) c Ready
       m = moved-join t c _ Ready (live-slot l c below) (live-once l c below)
 
       gone : currents (readyBefore low t c) ≡ []

@@ -1,141 +1,96 @@
 -- A process stops, resumes or yields: what stays sound. Assumes nothing.
 use Prim.Native.Nat.{ℕ, zero, suc, _≤_, _<_}
 use native.Mathlib.Omega.{arith}
-use mathlib.Core.Bool.{Bool, true, false, not, _||_, true≢false}
-use mathlib.Core.List.{List, [], _∷_}
+use mathlib.Core.Bool.{Bool, true, false, true≢false}
+use mathlib.Core.List.{List}
 use mathlib.Core.Logic.{_≢_}
-use mathlib.Core.Path.{_≡_, refl, sym, ap, subst, _∙_}
-use lib.Dec.{eqb}
+use mathlib.Core.Path.{_≡_, refl, sym, ap, _∙_}
 use lib.IntN.{ℤ, pos, negsuc, sucℤ}
-use lib.ListN.{length, length-set}
-use borrow.Author.Tests.{ne-eqb, eqb-true, eqb-false}
-use Rattle.lists.specs.Lists.{if_then_else_, without, times, firstOr, first}
-use Rattle.lists.proofs.Bools.{not-true}
-use Rattle.lists.proofs.ListLaws.{length-without, without-only, times-only, times-empty, length-empty}
-use Rattle.lists.proofs.FallingLaws.{falling-filter, falling-ext}
-use Rattle.tables.specs.declared.State.the-variants.{Free, Ready, Suspended, Waiting}
+use lib.ListN.{length}
+use borrow.Author.Tests.{ne-eqb}
+use Rattle.lists.specs.Lists.{without, times, firstOr, first}
+use Rattle.lists.proofs.Bools.{either}
+use Rattle.lists.proofs.ListLaws.{length-without, without-only, times-empty, length-empty}
+use Rattle.tables.specs.declared.State.the-variants.{Suspended, Waiting}
 use Rattle.tables.specs.declared.Process.{Process}
 use Rattle.tables.specs.declared.Semaphore.{Semaphore}
 use Rattle.tables.specs.declared.Tables.{Tables}
-use Rattle.tables.specs.Limits.{processLimit, priorityLimit}
+use Rattle.tables.specs.Limits.{processLimit}
 use Rattle.tables.specs.States.{isFree, isCurrent, isReady, waitsOn}
-use Rattle.tables.specs.Readers.{freeSlot, process, stateOf, priorityOf, isUsed, countOf, readyList, queue, currents, currentOf}
-use Rattle.tables.specs.Setters.{withProcess, withSemaphore, withCount}
-use Rattle.tables.specs.Sound.{Laid, Counted, Running, Sound}
-use Rattle.tables.proofs.LineLaws.{at-same, at-other, line-leave, line-absent, line-first, live-below, live-slot, used-entry, in-line}
-use Rattle.tables.proofs.Sentences.{waiter-used, current-only}
+use Rattle.tables.specs.Readers.{freeSlot, process, stateOf, priorityOf, isUsed, countOf, queue, currents, currentOf}
+use Rattle.tables.specs.Setters.{inState, withProcess, withSemaphore, withCount}
+use Rattle.tables.specs.Sound.{SlotSound, Laid, Counted, Running, Sound}
+use Rattle.tables.proofs.SlotLaws.{free-sound, state-sound}
+use Rattle.tables.proofs.LineLaws.{live-below, live-slot, used-entry}
+use Rattle.tables.proofs.Sentences.{waiter-used, current-only, current-is, current-unique}
 use Rattle.rules.specs.Schedule.{makeReady}
 use Rattle.rules.specs.Calls.{switching, stop, finish}
-use Rattle.rules.proofs.Moves.{ready-moved, laid-ready}
-use Rattle.rules.proofs.Resched.{Zero, Settled, line-kept, zero-moved, settled-trans, Prepared, finished}
+use Rattle.rules.proofs.Moves.{Moved, moved-slot, laid-moved, falling-left, ready-moved, laid-ready}
+use Rattle.rules.proofs.Resched.{Settled, line-kept, zero-other, zero-moved, settled-trans, Prepared, finished}
 use Rattle.rules.proofs.Effects.{Effect, line-entry, laid-entry, running-entry, effect-done}
 
 -- A slot is written anew, off the ready list
 
-module _ {t : Tables} (l : Laid t) (p : ℕ) (below : p < processLimit) (hz : 0 ≢ p) (y : Process) (hr : isReady (y .state) ≡ false) where
-  ready-set : readyList (withProcess t p y) ≡ without p (readyList t)
-  ready-set = line-leave t p y isReady (live-slot l p below) hr
+module _ {t : Tables} (l : Laid t) (p : ℕ) (below : p < processLimit) (y : Process) (hr : isReady (y .state) ≡ false) where
+  pub set-moved : Moved t (withProcess t p y) p y
+  set-moved = moved-slot t p y (live-slot l p below)
 
-  off-p : (x : ℕ) → not (eqb x p) ≡ true → priorityOf (withProcess t p y) x ≡ priorityOf t x
-  off-p x e = ap (λ (r : Process). r .priority) (at-other t p y x (eqb-false x p (not-true (eqb x p) e)))
-
-  pub laid-set : (y .state ≡ Free → y .priority ≡ 0) → (isFree (y .state) ≡ false → (1 ≤ y .priority) × (y .priority ≤ priorityLimit)) → Laid (withProcess t p y)
-  unfolding without
-  laid-set hf hl =
-      record {
-        slots = length-set (t .processes) p y ∙ l .slots;
-        entries = l .entries;
-        places = l .places;
-        order = l .order;
-        falling = rw ready-set (falling-ext (priorityOf t) (priorityOf (withProcess t p y)) (λ x. not (eqb x p)) off-p (readyList t) (falling-filter (priorityOf t) (λ x. not (eqb x p)) (readyList t) (l .falling)));
-        idle = ap (λ (r : Process). r .priority) (at-other t p y 0 hz) ∙ l .idle;
-        free = λ x. free′ x (eqb x p) refl;
-        live = λ x h1. live′ x h1 (eqb x p) refl;
-        cursors = l .cursors;
-      }
-    where
-      here : process (withProcess t p y) p ≡ y
-      here = at-same t p y (live-slot l p below)
-
-      free′ : (x : ℕ) (b : Bool) → eqb x p ≡ b → stateOf (withProcess t p y) x ≡ Free → priorityOf (withProcess t p y) x ≡ 0
-      free′ x true e k = ap (priorityOf (withProcess t p y)) (eqb-true x p e) ∙ ap (λ (r : Process). r .priority) here ∙ hf (ap (λ (r : Process). r .state) (sym here) ∙ ap (stateOf (withProcess t p y)) (sym (eqb-true x p e)) ∙ k)
-      free′ x false e k = ap (λ (r : Process). r .priority) (at-other t p y x (eqb-false x p e)) ∙ l .free x (ap (λ (r : Process). r .state) (sym (at-other t p y x (eqb-false x p e))) ∙ k)
-
-      Fine : ℕ → Type 0
-      Fine n = (1 ≤ n) × (n ≤ priorityLimit)
-
-      live′ : (x : ℕ) → 1 ≤ x → (b : Bool) → eqb x p ≡ b → isFree (stateOf (withProcess t p y) x) ≡ false → (1 ≤ priorityOf (withProcess t p y) x) × (priorityOf (withProcess t p y) x ≤ priorityLimit)
-      live′ x h1 true e k = subst Fine (ap (λ (r : Process). r .priority) (sym here) ∙ ap (priorityOf (withProcess t p y)) (sym (eqb-true x p e))) (hl (ap (λ (r : Process). isFree (r .state)) (sym here) ∙ ap (λ (n : ℕ). isFree (stateOf (withProcess t p y) n)) (sym (eqb-true x p e)) ∙ k))
-      live′ x h1 false e k = subst Fine (ap (λ (r : Process). r .priority) (sym (at-other t p y x (eqb-false x p e)))) (l .live x h1 (ap (λ (r : Process). isFree (r .state)) (sym (at-other t p y x (eqb-false x p e))) ∙ k))
-
-  pub zero-set : Zero t → Zero (withProcess t p y)
-  zero-set z = ap (λ (r : Process). isCurrent (r .state) || isReady (r .state)) (at-other t p y 0 hz) ∙ z
+  pub laid-set : SlotSound p y → Laid (withProcess t p y)
+  laid-set s = laid-moved l set-moved s (falling-left l set-moved hr)
 
   -- whoever isn't current may be written anew while another runs
-  pub running-set : Running t → isCurrent (stateOf t p) ≡ false → isCurrent (y .state) ≡ false → Running (withProcess t p y)
+  pub running-set : 0 ≢ p → Running t → isCurrent (stateOf t p) ≡ false → isCurrent (y .state) ≡ false → Running (withProcess t p y)
   unfolding firstOr
-  running-set r hc hy =
+  running-set hz r hc hy =
       record {
         one = ap length same ∙ r .one;
-        zero = zero-set (r .zero);
-        top = λ q k. top′ q k (eqb q p) refl;
+        zero = zero-other set-moved hz (r .zero);
+        top = λ q k. either q p
+            (λ e. absurd (true≢false (sym (ap isReady k) ∙ ap (λ (n : ℕ). isReady (stateOf (withProcess t p y) n)) e ∙ ap (λ (x : Process). isReady (x .state)) (set-moved .same) ∙ hr)))
+            (λ e. top′ q (ap (λ (x : Process). x .priority) (set-moved .other q e)) (r .top q (ap (λ (x : Process). x .state) (sym (set-moved .other q e)) ∙ k)));
       }
     where
       same : currents (withProcess t p y) ≡ currents t
-      same = line-leave t p y isCurrent (live-slot l p below) hy ∙ line-absent t p isCurrent hc
-
-      c-current : isCurrent (stateOf t (currentOf t)) ≡ true
-      c-current = line-first t isCurrent (currentOf t) [] (current-only r)
+      same = line-kept set-moved isCurrent hy hc
 
       c-other : currentOf t ≢ p
-      c-other e = true≢false (sym c-current ∙ ap (λ (n : ℕ). isCurrent (stateOf t n)) e ∙ hc)
+      c-other e = true≢false (sym (ap isCurrent (current-is r)) ∙ ap (λ (n : ℕ). isCurrent (stateOf t n)) e ∙ hc)
 
-      top′ : (q : ℕ) → stateOf (withProcess t p y) q ≡ Ready → (b : Bool) → eqb q p ≡ b → priorityOf (withProcess t p y) q ≤ priorityOf (withProcess t p y) (currentOf (withProcess t p y))
-      top′ q k true e = absurd (true≢false (sym (ap isReady (ap (λ (r : Process). r .state) (sym (at-same t p y (live-slot l p below))) ∙ ap (stateOf (withProcess t p y)) (sym (eqb-true q p e)) ∙ k)) ∙ hr))
-      top′ q k false e =
-          let a : priorityOf (withProcess t p y) q ≡ priorityOf t q = ap (λ (r : Process). r .priority) (at-other t p y q (eqb-false q p e)) in
-          let b : priorityOf (withProcess t p y) (currentOf (withProcess t p y)) ≡ priorityOf t (currentOf t) = ap (λ (c : List ℕ). priorityOf (withProcess t p y) (first c)) same ∙ ap (λ (r : Process). r .priority) (at-other t p y (currentOf t) c-other) in
-          omega (arith, r .top q (ap (λ (r : Process). r .state) (sym (at-other t p y q (eqb-false q p e))) ∙ k))
-
-  pub none-set : Running t → isCurrent (stateOf t p) ≡ true → isCurrent (y .state) ≡ false → currents (withProcess t p y) ≡ []
-  none-set r hc hy = line-leave t p y isCurrent (live-slot l p below) hy ∙ ap (without p) (current-only r ∙ ap (λ (n : ℕ). n ∷ []) only) ∙ without-only p
-    where
-      only : currentOf t ≡ p
-      only = times-only p (currentOf t) (ap (times p) (sym (current-only r)) ∙ in-line l p isCurrent below ∙ ap (λ (b : Bool). if b then 1 else 0) hc)
+      top′ : (q : ℕ) → priorityOf (withProcess t p y) q ≡ priorityOf t q → priorityOf t q ≤ priorityOf t (currentOf t) → priorityOf (withProcess t p y) q ≤ priorityOf (withProcess t p y) (currentOf (withProcess t p y))
+      top′ q a h =
+          let b : priorityOf (withProcess t p y) (currentOf (withProcess t p y)) ≡ priorityOf t (currentOf t) = ap (λ (c : List ℕ). priorityOf (withProcess t p y) (first c)) same ∙ ap (λ (x : Process). x .priority) (set-moved .other (currentOf t) c-other) in
+          omega arith
 
 -- A process that waits on nothing stops
 
-pub queue-set : {t : Tables} → Laid t → (p : ℕ) → p < processLimit → (y : Process) (r : ℕ) → waitsOn r (y .state) ≡ false → waitsOn r (stateOf t p) ≡ false → queue (withProcess t p y) r ≡ queue t r
-queue-set {t} l p below y r hy hs = line-leave t p y (waitsOn r) (live-slot l p below) hy ∙ line-absent t p (waitsOn r) hs
-
 module _ {t : Tables} (S : Sound t) (p : ℕ) (below : p < processLimit) (hz : 0 ≢ p) (y : Process) (hr : isReady (y .state) ≡ false) (hy : isCurrent (y .state) ≡ false) where
   few-left : (b : Bool) → isCurrent (stateOf t p) ≡ b → length (currents (withProcess t p y)) ≤ 1
-  few-left true e = rw (none-set (S .laid) p below hz y hr (S .running) e hy) (omega arith)
-  few-left false e = let k : length (currents (withProcess t p y)) ≡ 1 = running-set (S .laid) p below hz y hr (S .running) e hy .one in omega arith
+  few-left true e = rw (set-moved (S .laid) p below y hr .leaves isCurrent hy, current-only (S .running), current-unique S p e, without-only p) (omega arith)
+  few-left false e = let k : length (currents (withProcess t p y)) ≡ 1 = running-set (S .laid) p below y hr hz (S .running) e hy .one in omega arith
 
-  stop-prepared : (y .state ≡ Free → y .priority ≡ 0) → (isFree (y .state) ≡ false → (1 ≤ y .priority) × (y .priority ≤ priorityLimit)) → (v : ℤ) → Prepared (stop v t p y)
-  stop-prepared hf hl v =
+  stop-prepared : SlotSound p y → (v : ℤ) → Prepared (stop v t p y)
+  stop-prepared s v =
       record {
-        laid = laid-set (S .laid) p below hz y hr hf hl;
+        laid = laid-set (S .laid) p below y hr s;
         few = few-left (isCurrent (stateOf t p)) refl;
-        zero = zero-set (S .laid) p below hz y hr (S .running .zero);
-        runs = λ e. running-set (S .laid) p below hz y hr (S .running) e hy;
+        zero = zero-other (set-moved (S .laid) p below y hr) hz (S .running .zero);
+        runs = λ e. running-set (S .laid) p below y hr hz (S .running) e hy;
       }
 
   stop-settled : (v : ℤ) → Prepared (stop v t p y) → ((r : ℕ) → waitsOn r (y .state) ≡ false) → ((r : ℕ) → waitsOn r (stateOf t p) ≡ false) → Settled t (finish (stop v t p y) .tables)
-  stop-settled v P hw hs = settled-trans refl (λ r. queue-set (S .laid) p below y r (hw r) (hs r)) (finished P)
+  stop-settled v P hw hs = settled-trans refl (λ r. line-kept (set-moved (S .laid) p below y hr) (waitsOn r) (hw r) (hs r)) (finished P)
 
 module _ {t : Tables} (S : Sound t) (p : ℕ) (below : p < processLimit) (hz : 0 ≢ p) where
   -- it is suspended
-  pub suspend-prepared : isFree (stateOf t p) ≡ false → (v : ℤ) → Prepared (stop v t p (record { state = Suspended; priority = priorityOf t p }))
-  suspend-prepared h v = stop-prepared S p below hz (record { state = Suspended; priority = priorityOf t p }) refl refl (λ e. absurd (true≢false (sym (ap isFree e)))) (λ e. S .laid .live p (omega arith) h) v
+  pub suspend-prepared : isFree (stateOf t p) ≡ false → (v : ℤ) → Prepared (stop v t p (inState Suspended (process t p)))
+  suspend-prepared h v = stop-prepared S p below hz _ refl refl (state-sound p (process t p) Suspended h refl (S .laid .slot p)) v
 
-  pub suspend-settled : isFree (stateOf t p) ≡ false → ((r : ℕ) → waitsOn r (stateOf t p) ≡ false) → (v : ℤ) → Settled t (finish (stop v t p (record { state = Suspended; priority = priorityOf t p })) .tables)
-  suspend-settled h hs v = stop-settled S p below hz (record { state = Suspended; priority = priorityOf t p }) refl refl v (suspend-prepared h v) (λ r. refl) hs
+  pub suspend-settled : isFree (stateOf t p) ≡ false → ((r : ℕ) → waitsOn r (stateOf t p) ≡ false) → (v : ℤ) → Settled t (finish (stop v t p (inState Suspended (process t p))) .tables)
+  suspend-settled h hs v = stop-settled S p below hz _ refl refl v (suspend-prepared h v) (λ r. refl) hs
 
   -- its slot is free
   pub free-prepared : (v : ℤ) → Prepared (stop v t p freeSlot)
-  free-prepared v = stop-prepared S p below hz freeSlot refl refl (λ k. refl) (λ k. absurd (true≢false k)) v
+  free-prepared v = stop-prepared S p below hz freeSlot refl refl (free-sound p) v
 
   pub free-settled : ((r : ℕ) → waitsOn r (stateOf t p) ≡ false) → (v : ℤ) → Settled t (finish (stop v t p freeSlot) .tables)
   free-settled hs v = stop-settled S p below hz freeSlot refl refl v (free-prepared v) (λ r. refl) hs
@@ -150,25 +105,28 @@ module _ {t : Tables} (S : Sound t) (p s : ℕ) (hz : 0 ≢ p) (h : stateOf t p 
   laid-count c = laid-entry (S .laid) s (record { used = isUsed t s; count = c })
 
   waiter-runs : (c : ℤ) → Running (withProcess (withCount t s c) p freeSlot)
-  waiter-runs c = running-set (laid-count c) p waiter-in hz freeSlot refl (running-entry (S .running) s (record { used = isUsed t s; count = c })) (ap isCurrent h) refl
+  waiter-runs c = running-set (laid-count c) p waiter-in freeSlot refl hz (running-entry (S .running) s (record { used = isUsed t s; count = c })) (ap isCurrent h) refl
 
   pub kill-prepared : (v c : ℤ) → Prepared (stop v (withCount t s c) p freeSlot)
   kill-prepared v c =
       record {
-        laid = laid-set (laid-count c) p waiter-in hz freeSlot refl (λ k. refl) (λ k. absurd (true≢false k));
+        laid = laid-set (laid-count c) p waiter-in freeSlot refl (free-sound p);
         few = omega (arith, waiter-runs c .one);
-        zero = zero-set (laid-count c) p waiter-in hz freeSlot refl (S .running .zero);
+        zero = zero-other (set-moved (laid-count c) p waiter-in freeSlot refl) hz (S .running .zero);
         runs = λ e. waiter-runs c;
       }
 
   pub kill-waiter : (v : ℤ) → Effect t (finish (stop v (withCount t s (sucℤ (countOf t s))) p freeSlot) .tables) s (isUsed t s) (sucℤ (countOf t s)) (without p (queue t s))
   kill-waiter v =
       effect-done (stop v (withSemaphore t s x) p freeSlot) s x (used-entry (S .laid) s (waiter-used S p s h)) (kill-prepared v (sucℤ (countOf t s))) refl
-      (line-leave (withSemaphore t s x) p freeSlot (waitsOn s) (live-slot (laid-count (x .count)) p waiter-in) refl ∙ ap (without p) (line-entry t s x (waitsOn s)))
-      (λ r k. queue-set (laid-count (x .count)) p waiter-in freeSlot r refl (ap (waitsOn r) h ∙ ne-eqb s r (λ d. k (sym d))) ∙ line-entry t s x (waitsOn r))
+      (m .leaves (waitsOn s) refl ∙ ap (without p) (line-entry t s x (waitsOn s)))
+      (λ r k. line-kept m (waitsOn r) refl (ap (waitsOn r) h ∙ ne-eqb s r (λ d. k (sym d))) ∙ line-entry t s x (waitsOn r))
     where
       x : Semaphore
       x = record { used = isUsed t s; count = sucℤ (countOf t s) }
+
+      m : Moved (withSemaphore t s x) (withProcess (withSemaphore t s x) p freeSlot) p freeSlot
+      m = set-moved (laid-count (x .count)) p waiter-in freeSlot refl
 
 pub counted-kill : (c : ℤ) (q : List ℕ) (p : ℕ) → Counted c q → times p q ≡ 1 → Counted (sucℤ c) (without p q)
 counted-kill (pos n) q p h k = absurd (times-empty p q k h)

@@ -25,7 +25,7 @@ use Rattle.tables.proofs.Sentences.{sentences, current-only, current-is, curren
 use Rattle.rules.specs.Schedule.{makeReady, makeWait}
 use Rattle.rules.specs.Calls.{below0, plain, switching, waitOn, signalOn, finish}
 use Rattle.rules.proofs.Joins.{queue-makeWait}
-use Rattle.rules.proofs.Moves.{Moved, moved-join, laid-moved, falling-left, ready-moved, laid-ready}
+use Rattle.rules.proofs.Moves.{Turned, moved-join, laid-turned, falling-left, ready-moved, laid-ready}
 use Rattle.rules.proofs.Resched.{line-kept, zero-other, zero-moved, Prepared}
 use Rattle.rules.proofs.Effects.{Effect, line-entry, laid-entry, running-entry, effect-entry, effect-done}
 
@@ -64,7 +64,7 @@ module _ {t : Tables} (S : Sound t) (s : ℕ) (hu : isUsed t s ≡ true) where
 
   -- the caller waits at the queue's tail, and another is started
 
-  waiting-moved : (c : ℤ) → Moved (withCount t s c) (makeWait (withCount t s c) (currentOf t) s) (currentOf t) (Waiting s)
+  waiting-moved : (c : ℤ) → Turned (withCount t s c) (makeWait (withCount t s c) (currentOf t) s) (currentOf t) (Waiting s)
   waiting-moved c =
       let l : Laid (withCount t s c) = laid-entry (S .laid) s _ in
       moved-join (withCount t s c) (currentOf t) _ (Waiting s) (live-slot l (currentOf t) (current-below S)) (live-once l (currentOf t) (current-below S))
@@ -72,7 +72,7 @@ module _ {t : Tables} (S : Sound t) (s : ℕ) (hu : isUsed t s ≡ true) where
   pub wait-prepared : (c : ℤ) → 0 ≢ currentOf t → Prepared (switching (pos 1) (makeWait (withCount t s c) (currentOf t) s))
   wait-prepared c hz =
       record {
-        laid = laid-moved l m (current-below S) refl (ap isFree (current-is (S .running))) (falling-left l m refl);
+        laid = laid-turned l m refl (ap isFree (current-is (S .running))) (falling-left l m refl);
         few = rw none (omega arith);
         zero = zero-other m hz (S .running .zero);
         runs = λ h. absurd (true≢false h);
@@ -81,7 +81,7 @@ module _ {t : Tables} (S : Sound t) (s : ℕ) (hu : isUsed t s ≡ true) where
       l : Laid (withCount t s c)
       l = laid-entry (S .laid) s _
 
-      m : Moved (withCount t s c) (makeWait (withCount t s c) (currentOf t) s) (currentOf t) (Waiting s)
+      m : Turned (withCount t s c) (makeWait (withCount t s c) (currentOf t) s) (currentOf t) (Waiting s)
       m = waiting-moved c
 
       none : currents (makeWait (withCount t s c) (currentOf t) s) ≡ []
@@ -133,7 +133,7 @@ module _ {t : Tables} (S : Sound t) (s : ℕ) (hu : isUsed t s ≡ true) where
       l : Laid (withCount t s c)
       l = laid-entry (S .laid) s _
 
-      m : Moved (withCount t s c) (makeReady (withCount t s c) f) f Ready
+      m : Turned (withCount t s c) (makeReady (withCount t s c) f) f Ready
       m = ready-moved l f (head-below f fs e)
 
   wakes : (c : ℤ) (f : ℕ) (fs : List ℕ) → queue t s ≡ f ∷ fs → Effect t (finish (switching (pos 1) (makeReady (withCount t s c) f)) .tables) s (isUsed t s) c fs
@@ -145,7 +145,7 @@ module _ {t : Tables} (S : Sound t) (s : ℕ) (hu : isUsed t s ≡ true) where
       once : times f (f ∷ fs) ≡ 1
       once = ap (times f) (sym e) ∙ sentences S .queuedOnce f s (head-waits f fs e)
 
-      m : Moved (withCount t s c) (makeReady (withCount t s c) f) f Ready
+      m : Turned (withCount t s c) (makeReady (withCount t s c) f) f Ready
       m = ready-moved (laid-entry (S .laid) s _) f (head-below f fs e)
 
   pub signal-effect : Effect t (finish (signalOn t s) .tables) s (isUsed t s) (sucℤ (countOf t s)) (if below0 (countOf t s) then drop 1 (queue t s) else queue t s)

@@ -1,8 +1,9 @@
 -- Answers, and the paper's number and value for each.
 use Prim.Native.Nat.{ℕ}
 use lib.IntN.{ℤ, negsuc}
-use mathlib.Core.Bool.{Bool}
+use mathlib.Core.Bool.{Bool, false}
 use mathlib.Core.List.{List, [], _∷_}
+use mathlib.Core.Path.{_≡_}
 use Rattle.lists.specs.Lists.{if_then_else_}
 use Rattle.tables.specs.declared.Tables.{Tables}
 use Rattle.rules.specs.declared.Answer.{Answer}
@@ -34,7 +35,11 @@ pub record Check : Type 0 where
 abbrev pub _when_ : ℕ → Bool → Check
 n when b = record { number = n; holds = b }
 
--- of several the first counts, and nothing changes
-abbrev pub unless : Tables → List Check → Outcome → Outcome
-unless t [] o = o
-unless t (c ∷ cs) o = if c .holds then refused (c .number) t else unless t cs o
+-- of several the first counts: it is refused so, and else it is done
+abbrev pub unless : {A : Type 0} → (ℕ → A) → List Check → A → A
+unless refuse [] o = o
+unless refuse (c ∷ cs) o = if c .holds then refuse (c .number) else unless refuse cs o
+
+abbrev pub NoneHolds : List Check → Type 0
+NoneHolds [] = Unit
+NoneHolds (c ∷ cs) = (c .holds ≡ false) × NoneHolds cs

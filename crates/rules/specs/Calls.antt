@@ -5,20 +5,20 @@ use lib.Signed.{ltZ, leZ}
 use lib.Dec.{eqb}
 use mathlib.Core.Bool.{Bool, true, false, not, _&&_, _||_}
 use mathlib.Core.List.{List, [], _∷_}
+use mathlib.Core.Option.{Option, none, some}
 use Rattle.lists.specs.Lists.{if_then_else_, filter, isEmpty, first}
 use Rattle.lists.specs.Numbers.{roundFrom}
-use Rattle.tables.specs.declared.State.{State}
-use Rattle.tables.specs.declared.State.the-variants.{Free, Current, Ready, Suspended, Waiting}
+use Rattle.tables.specs.declared.State.the-variants.{Suspended}
 use Rattle.tables.specs.declared.Process.{Process}
 use Rattle.tables.specs.declared.Semaphore.{Semaphore}
 use Rattle.tables.specs.declared.Tables.{Tables}
 use Rattle.tables.specs.Limits.{processLimit, semaphoreLimit, priorityLimit}
-use Rattle.tables.specs.States.{isFree, isCurrent, isReady, isSuspended}
-use Rattle.tables.specs.Readers.{freeSlot, freeSemaphore, stateOf, priorityOf, countOf, isUsed, queue, currentOf}
-use Rattle.tables.specs.Setters.{withProcess, withSemaphore, withCount, withNextSemaphore, withNextProcess}
+use Rattle.tables.specs.States.{isFree, isCurrent, isReady, isSuspended, awaits}
+use Rattle.tables.specs.Readers.{freeSlot, freeSemaphore, process, stateOf, priorityOf, countOf, isUsed, queue, currentOf}
+use Rattle.tables.specs.Setters.{inState, newSlot, withProcess, withSemaphore, withCount, withNextSemaphore, withNextProcess}
 use Rattle.rules.specs.declared.Outcome.{Outcome}
 use Rattle.rules.specs.Schedule.{makeReady, makeAllReady, makeWait, reschedule}
-use Rattle.rules.specs.Answers.{Check, _when_, unless, done}
+use Rattle.rules.specs.Answers.{Check, _when_, NoneHolds, unless, done, refused}
 
 pub data Call : Type 0 where
   Wait Signal MakeSemaphore Delete : ℤ → Call
@@ -109,19 +109,16 @@ abbrev pub newSemaphore : Tables → ℕ → ℤ → Deed
 newSemaphore t s c = plain (pos s) (withNextSemaphore (withSemaphore t s (record { used = true; count = c })) (onePast semaphoreLimit s))
 
 abbrev pub newProcess : Tables → ℕ → ℕ → Deed
-newProcess t p priority = plain (pos p) (withNextProcess (withProcess t p (record { state = Suspended; priority = priority })) (onePast processLimit p))
+newProcess t p priority = plain (pos p) (withNextProcess (withProcess t p (newSlot priority)) (onePast processLimit p))
 
 -- the slot as given; a reschedule only if it was the current process's
 abbrev pub stop : ℤ → Tables → ℕ → Process → Deed
 stop v t p x = record { tables = withProcess t p x; reschedules = isCurrent (stateOf t p); value = v }
 
 -- a waiting one leaves its queue and that count goes up by 1; it releases nobody
-abbrev pub uncounted : Tables → State → Tables
-uncounted t Free = t
-uncounted t Current = t
-uncounted t Ready = t
-uncounted t Suspended = t
-uncounted t (Waiting s) = withCount t s (sucℤ (countOf t s))
+abbrev pub uncounted : Tables → Option ℕ → Tables
+uncounted t none = t
+uncounted t (some s) = withCount t s (sucℤ (countOf t s))
 
 -- The two tables of the paper
 
@@ -140,6 +137,10 @@ checks t (Kill a) = noProcess a ∷ nullProcess a ∷ notLive t a ∷ []
 checks t Yield = []
 checks t (Count a) = noSemaphore a ∷ notUsed t a ∷ []
 
+-- none of them holds, so that the call is done
+abbrev pub Accepted : Tables → Call → Type 0
+Accepted t c = NoneHolds (checks t c)
+
 -- what a call does when no check holds
 -- (document 001's delete leaves a leftover count in the freed entry, ours is 0)
 abbrev pub deed : Tables → Call → Deed
@@ -150,8 +151,8 @@ deed t (Delete a) = release t (natAbs a) freeSemaphore
 deed t (Reset a b) = release t (natAbs a) (record { used = true; count = b })
 deed t (MakeProcess a) = newProcess t (first (freeSlots t)) (natAbs a)
 deed t (Resume a) = switching (pos (priorityOf t (natAbs a))) (makeReady t (natAbs a))
-deed t (Suspend a) = stop (pos (priorityOf t (natAbs a))) t (natAbs a) (record { state = Suspended; priority = priorityOf t (natAbs a) })
-deed t (Kill a) = stop (pos 1) (uncounted t (stateOf t (natAbs a))) (natAbs a) freeSlot
+deed t (Suspend a) = stop (pos (priorityOf t (natAbs a))) t (natAbs a) (inState Suspended (process t (natAbs a)))
+deed t (Kill a) = stop (pos 1) (uncounted t (awaits (stateOf t (natAbs a)))) (natAbs a) freeSlot
 deed t Yield = switching (pos 1) t
 deed t (Count a) = plain (countOf t (natAbs a)) t
 
@@ -160,4 +161,4 @@ abbrev pub finish : Deed → Outcome
 finish d = done (d .value) (if d .reschedules then reschedule (d .tables) else d .tables)
 
 unfoldable pub step : Tables → Call → Outcome
-step t c = unless t (checks t c) (finish (deed t c))
+step t c = unless (λ n. refused n t) (checks t c) (finish (deed t c))

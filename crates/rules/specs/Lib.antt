@@ -2,4 +2,3 @@ pub mod Schedule
 pub mod Answers
 pub mod Calls
 pub mod Enter
-pub mod Telling

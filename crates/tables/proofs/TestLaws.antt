@@ -1,14 +1,15 @@
 -- The test of soundness holds exactly when the tables are sound. Assumes nothing.
 use Prim.Native.Nat.{ℕ, suc, _≤_, _<_}
 use native.Mathlib.Omega.{arith}
-use mathlib.Core.Bool.{Bool, true, false, _&&_, _||_, true≢false, false≢true}
+use mathlib.Core.Bool.{Bool, true, false, _&&_, _||_, false≢true}
 use mathlib.Core.List.{List, [], _∷_}
+use mathlib.Core.Logic.{_≢_}
 use mathlib.Core.Option.{Option, none, some}
 use mathlib.Core.Path.{_≡_, refl, sym, ap, subst, _∙_}
-use lib.Dec.{eqb, ltb, leb}
+use lib.Dec.{eqb, ltb}
 use lib.IntN.{ℤ, pos, negsuc, natAbs}
 use lib.ListN.{length, getD}
-use borrow.Author.Tests.{eq-eqb, ne-eqb, lt-ltb, le-leb, ltb-true, eqb-true, leb-true}
+use borrow.Author.Tests.{eq-eqb, ne-eqb, lt-ltb, ltb-true, eqb-true}
 use Rattle.lists.specs.Lists.{if_then_else_, times, AtMost, Falling}
 use Rattle.lists.specs.Numbers.{all}
 use Rattle.lists.proofs.Bools.{either, below?, both, and-in}
@@ -16,19 +17,18 @@ use Rattle.lists.proofs.ListLaws.{length-empty}
 use Rattle.lists.proofs.FallingLaws.{atMost-member, atMost-all, falls-both, both-falls}
 use Rattle.lists.proofs.NumberLaws.{all-at, all-true}
 use Rattle.lists.proofs.Rows.{within, times-at, Row, row-times}
-use Rattle.tables.specs.declared.State.{State}
-use Rattle.tables.specs.declared.State.the-variants.{Free, Current, Ready, Suspended, Waiting}
 use Rattle.tables.specs.declared.Process.{Process}
 use Rattle.tables.specs.declared.Semaphore.{Semaphore}
 use Rattle.tables.specs.declared.Tables.{Tables}
-use Rattle.tables.specs.Limits.{processLimit, semaphoreLimit, priorityLimit}
-use Rattle.tables.specs.States.{isFree, isCurrent, isReady, awaits, isThe, waitsOn}
+use Rattle.tables.specs.Limits.{processLimit, semaphoreLimit}
+use Rattle.tables.specs.States.{isCurrent, isReady, awaits, isThe, waitsOn}
 use Rattle.tables.specs.Readers.{process, stateOf, priorityOf, semaphore, isUsed, countOf, readyList, queue, currents, currentOf}
-use Rattle.tables.specs.Sound.{Laid, Counted, Queued, Sound}
+use Rattle.tables.specs.Sound.{SlotSound, Laid, Counted, Queued, Sound}
 use Rattle.tables.specs.Test.{shaped, onceEach, isSemaphore, namesSemaphore, nullFits, slotFits, countFits, semaphoreFits, countsFit, readyFalls, clauses, allOf, soundNow}
-use Rattle.tables.proofs.States.{is-free, is-ready, awaits-some}
+use Rattle.tables.proofs.States.{is-ready, awaits-some}
 use Rattle.tables.proofs.LineLaws.{line-passes, line-empty, slot-past, entry-past, in-line-live}
 use Rattle.tables.proofs.Sentences.{waiter-below}
+use Rattle.tables.proofs.SlotLaws.{null-sound, fits-sound, sound-fits, free-sound}
 
 -- the clauses of the test, by name
 pub record Passed (t : Tables) : Type 0 where
@@ -132,23 +132,16 @@ module _ (t : Tables) (P : Passed t) where
   unfolding readyFalls
   falls-well = falls-both (priorityOf t) (priorityOf t (currentOf t)) (readyList t) (P .ready)
 
-  slot-fits : (p : ℕ) → p < processLimit → 1 ≤ p → slotFits (process t p) ≡ true
-  slot-fits p k h = rw (ne-eqb p 0 (λ e. omega arith)) at (all-at (λ p. eqb p 0 || slotFits (process t p)) processLimit p (P .slots) k)
+  slot-fits : (p : ℕ) → p < processLimit → p ≢ 0 → slotFits (process t p) ≡ true
+  slot-fits p k h = rw (ne-eqb p 0 h) at (all-at (λ p. eqb p 0 || slotFits (process t p)) processLimit p (P .slots) k)
 
-  free-fits : (p : ℕ) → stateOf t p ≡ Free → priorityOf t p ≡ 0
-  free-fits p e =
+  slot-sound : (p : ℕ) → SlotSound p (process t p)
+  slot-sound p =
       let n = lengths .0 in
-      either p 0 (λ d. rw d (eqb-true (priorityOf t 0) 0 (null-fits .1)))
+      either p 0 (λ d. rw d (null-sound (process t 0) (eqb-true (priorityOf t 0) 0 (null-fits .1))))
       (λ d. below? p processLimit
-      (λ k. eqb-true (priorityOf t p) 0 (rw e at (slot-fits p k (omega arith))))
-      (λ k. ap (λ (r : Process). r .priority) (slot-past t p (omega arith))))
-
-  live-fits : (p : ℕ) → 1 ≤ p → isFree (stateOf t p) ≡ false → (1 ≤ priorityOf t p) × (priorityOf t p ≤ priorityLimit)
-  live-fits p h e =
-      let n = lengths .0 in
-      below? p processLimit
-      (λ k. let w = both (ltb 0 (priorityOf t p)) (leb (priorityOf t p) priorityLimit) (rw e at (slot-fits p k h)) in (ltb-true 0 (priorityOf t p) (w .0), leb-true (priorityOf t p) priorityLimit (w .1)))
-      (λ k. absurd (true≢false (sym (ap (λ (r : Process). isFree (r .state)) (slot-past t p (omega arith))) ∙ e)))
+      (λ k. fits-sound p (process t p) d (slot-fits p k d))
+      (λ k. rw (slot-past t p (omega arith)) (free-sound p)))
 
   laid : Laid t
   laid =
@@ -158,9 +151,7 @@ module _ (t : Tables) (P : Passed t) where
         places = lengths .1 .1;
         order = row-times (row-of (t .order) (lengths .1 .1) (P .row));
         falling = falls-well .1;
-        idle = eqb-true (priorityOf t 0) 0 (null-fits .1);
-        free = free-fits;
-        live = live-fits;
+        slot = slot-sound;
         cursors = (ltb-true (t .«next_semaphore») semaphoreLimit (P .semaphoreCursor), ltb-true (t .«next_process») processLimit (P .processCursor));
       }
 
@@ -207,13 +198,6 @@ checked-sound {t} h = passed-sound t (passed t h)
 -- The tables are sound: the test holds
 
 module _ {t : Tables} (S : Sound t) where
-  slot-well : (p : ℕ) → 1 ≤ p → slotFits (process t p) ≡ true
-  slot-well p h = go (isFree (stateOf t p)) refl
-    where
-      go : (b : Bool) → isFree (stateOf t p) ≡ b → (if b then eqb (priorityOf t p) 0 else (ltb 0 (priorityOf t p) && leb (priorityOf t p) priorityLimit)) ≡ true
-      go true e = eq-eqb (priorityOf t p) 0 (S .laid .free p (is-free (stateOf t p) e))
-      go false e = let r = S .laid .live p h e in and-in (lt-ltb 0 (priorityOf t p) (r .0)) (le-leb (priorityOf t p) priorityLimit (r .1))
-
   names-well : (p : ℕ) → namesSemaphore (stateOf t p) ≡ true
   names-well p = go (awaits (stateOf t p)) refl
     where
@@ -229,8 +213,8 @@ module _ {t : Tables} (S : Sound t) where
         names = all-true processLimit (λ p. namesSemaphore (stateOf t p)) (λ p k. names-well p);
         semaphoreCursor = lt-ltb (t .«next_semaphore») semaphoreLimit (S .laid .cursors .0);
         processCursor = lt-ltb (t .«next_process») processLimit (S .laid .cursors .1);
-        null = and-in (S .running .zero) (eq-eqb (priorityOf t 0) 0 (S .laid .idle));
-        slots = all-true processLimit (λ p. eqb p 0 || slotFits (process t p)) (λ p k. either p 0 (λ e. rw e) (λ e. rw (ne-eqb p 0 e) (slot-well p (omega arith))));
+        null = and-in (S .running .zero) (eq-eqb (priorityOf t 0) 0 (S .laid .slot 0 .idle refl));
+        slots = all-true processLimit (λ p. eqb p 0 || slotFits (process t p)) (λ p k. either p 0 (λ e. rw e) (λ e. rw (ne-eqb p 0 e) (sound-fits p (process t p) e (S .laid .slot p))));
         row = of-row (t .order) (S .laid .places) (S .laid .order);
         one = eq-eqb (length (currents t)) 1 (S .running .one);
         ready = both-falls (priorityOf t) (priorityOf t (currentOf t)) (readyList t)

@@ -3,15 +3,23 @@ use Prim.Native.Nat.{ℕ, suc, _≤_, _<_}
 use mathlib.Core.Path.{_≡_}
 use mathlib.Core.Bool.{true, false, _||_}
 use mathlib.Core.List.{List, []}
+use mathlib.Core.Logic.{_≢_}
 use lib.ListN.{length}
 use lib.IntN.{ℤ, pos, negsuc}
 use lib.Dec.{ltb}
 use Rattle.lists.specs.Lists.{if_then_else_, times, Falling}
-use Rattle.tables.specs.declared.State.the-variants.{Free, Ready, Waiting}
+use Rattle.tables.specs.declared.State.the-variants.{Ready, Waiting}
+use Rattle.tables.specs.declared.Process.{Process}
 use Rattle.tables.specs.declared.Tables.{Tables}
 use Rattle.tables.specs.Limits.{processLimit, semaphoreLimit, priorityLimit}
 use Rattle.tables.specs.States.{isFree, isCurrent, isReady}
-use Rattle.tables.specs.Readers.{stateOf, priorityOf, countOf, isUsed, readyList, queue, currents, currentOf}
+use Rattle.tables.specs.Readers.{process, stateOf, priorityOf, countOf, isUsed, readyList, queue, currents, currentOf}
+
+-- a slot: the null process has priority 0, a free slot has priority 0, the others have priority 1 to 63 while live
+pub record SlotSound (p : ℕ) (x : Process) : Type 0 where
+  pub idle : p ≡ 0 → x .priority ≡ 0
+  pub free : isFree (x .state) ≡ true → x .priority ≡ 0
+  pub live : p ≢ 0 → isFree (x .state) ≡ false → (1 ≤ x .priority) × (x .priority ≤ priorityLimit)
 
 -- how the tables are laid
 pub record Laid (t : Tables) : Type 0 where
@@ -22,10 +30,7 @@ pub record Laid (t : Tables) : Type 0 where
   pub order : (p : ℕ) → times p (t .order) ≡ (if ltb p processLimit then 1 else 0)
   -- the ready list is in falling or equal priority
   pub falling : Falling (priorityOf t) (readyList t)
-  -- the null process has priority 0, a free slot has priority 0, the others have priority 1 to 63 while live
-  pub idle : priorityOf t 0 ≡ 0
-  pub free : (p : ℕ) → stateOf t p ≡ Free → priorityOf t p ≡ 0
-  pub live : (p : ℕ) → 1 ≤ p → isFree (stateOf t p) ≡ false → (1 ≤ priorityOf t p) × (priorityOf t p ≤ priorityLimit)
+  pub slot : (p : ℕ) → SlotSound p (process t p)
   pub cursors : (t .«next_semaphore» < semaphoreLimit) × (t .«next_process» < processLimit)
 
 -- a count of -n goes with n waiting, n > 0; one of at least 0 with none

@@ -3,6 +3,7 @@ use Prim.Native.Nat.{ℕ, suc, _≤_, _<_}
 use native.Mathlib.Omega.{arith}
 use mathlib.Core.Bool.{Bool, true, false}
 use mathlib.Core.List.{List, [], _∷_}
+use mathlib.Core.Option.{Option, none, some}
 use mathlib.Core.Path.{_≡_, refl, sym, ap, _∙_}
 use lib.Dec.{eqb, ltb}
 use lib.IntN.{ℤ, pos, sucℤ}
@@ -13,27 +14,28 @@ use Rattle.lists.specs.Numbers.{FirstFrom}
 use Rattle.lists.proofs.FallingLaws.{atMost-member}
 use Rattle.lists.proofs.RoundLaws.{found}
 use Rattle.tables.specs.declared.State.{State}
-use Rattle.tables.specs.declared.State.the-variants.{Free, Current, Ready, Suspended, Waiting}
+use Rattle.tables.specs.declared.State.the-variants.{Free, Current}
 use Rattle.tables.specs.declared.Process.{Process}
 use Rattle.tables.specs.declared.Tables.{Tables}
 use Rattle.tables.specs.Limits.{processLimit}
-use Rattle.tables.specs.States.{isFree, isCurrent, isReady}
+use Rattle.tables.specs.States.{isFree, isCurrent, isReady, awaits}
 use Rattle.tables.specs.Readers.{freeSlot, process, stateOf, priorityOf, countOf, currents}
 use Rattle.tables.specs.Setters.{withProcess, withCount}
 use Rattle.tables.specs.Sound.{Sound}
 use Rattle.tables.proofs.States.{is-free}
 use Rattle.tables.proofs.LineLaws.{line-absent, live-slot}
 use Rattle.tables.proofs.Sentences.{current-only, current-unique}
 use Rattle.rules.specs.declared.Answer.the-variants.{Done}
 use Rattle.rules.specs.declared.Outcome.{Outcome}
-use Rattle.rules.specs.Calls.{Call, MakeSemaphore, MakeProcess, Suspend, Kill, outside, freeSemaphores, freeSlots, stop, uncounted, deed, finish, step}
-use Rattle.rules.specs.Telling.{Accepted, seen, Seats, seats, behind, PutBehind, Changes, Keeps}
+use Rattle.rules.specs.Calls.{Call, MakeSemaphore, MakeProcess, Suspend, Kill, outside, freeSemaphores, freeSlots, stop, uncounted, Accepted, deed, finish, step}
+use Rattle.telling.specs.Telling.{seen, Seats, seats, behind, PutBehind, Changes, Keeps}
 use Rattle.rules.proofs.Resched.{Settled, Prepared}
 use Rattle.rules.proofs.Effects.{Shows, Effect, settled-shows}
 use Rattle.rules.proofs.Slots.{suspend-prepared, free-prepared}
 use Rattle.rules.proofs.Refusals.{step-done}
-use Rattle.rules.proofs.Does.{KillDoes, inside, not-null, kill-does}
-use Rattle.rules.proofs.Seats.{seats-set, slot-stopped}
+use Rattle.rules.proofs.Changes.{Loses, below-limit, not-null, kill-loses}
+use Rattle.telling.proofs.Seats.{seats-set}
+use Rattle.telling.proofs.Others.{slot-stopped}
 
 -- put so, p stands behind every entry whose rank is equal or higher, and before the others
 pub behind-put : (rank : ℕ → ℕ) (p : ℕ) (xs : List ℕ) → Falling rank xs → PutBehind rank p xs (behind rank p xs)
@@ -99,24 +101,21 @@ module _ {t : Tables} (S : Sound t) where
   -- a process that stops
 
   pub slot-of : (p : ℕ) → outside processLimit (pos p) ≡ false → p < length (t .processes)
-  slot-of p h = live-slot (S .laid) p (inside processLimit (pos p) h)
+  slot-of p h = live-slot (S .laid) p (below-limit processLimit (pos p) h)
 
   pub suspending : (p : ℕ) → Accepted t (Suspend (pos p)) → Prepared (deed t (Suspend (pos p)))
-  suspending p k = suspend-prepared S p (inside processLimit (pos p) (k .0)) (not-null p (k .1 .0)) (k .1 .1 .0) (pos (priorityOf t p))
+  suspending p k = suspend-prepared S p (below-limit processLimit (pos p) (k .0)) (not-null p (k .1 .0)) (k .1 .1 .0) (pos (priorityOf t p))
 
   pub killing : (p : ℕ) → Accepted t (Kill (pos p)) → Prepared (stop (pos 1) t p freeSlot)
-  killing p k = free-prepared S p (inside processLimit (pos p) (k .0)) (not-null p (k .1 .0)) (pos 1)
+  killing p k = free-prepared S p (below-limit processLimit (pos p) (k .0)) (not-null p (k .1 .0)) (pos 1)
 
   -- a kill by the state that it finds
-  pub kill-step : (p : ℕ) → Accepted t (Kill (pos p)) → (st : State) → stateOf t p ≡ st → step t (Kill (pos p)) ≡ finish (stop (pos 1) (uncounted t st) p freeSlot)
-  kill-step p k st h = step-done t (Kill (pos p)) k ∙ ap (λ (z : State). finish (stop (pos 1) (uncounted t z) p freeSlot)) h
+  pub kill-step : (p : ℕ) → Accepted t (Kill (pos p)) → (st : State) → stateOf t p ≡ st → step t (Kill (pos p)) ≡ finish (stop (pos 1) (uncounted t (awaits st)) p freeSlot)
+  kill-step p k st h = step-done t (Kill (pos p)) k ∙ ap (λ (z : State). finish (stop (pos 1) (uncounted t (awaits z)) p freeSlot)) h
 
-  pub kill-did : (p : ℕ) → Accepted t (Kill (pos p)) → (st : State) → stateOf t p ≡ st → KillDoes t p st (finish (stop (pos 1) (uncounted t st) p freeSlot) .tables)
-  kill-did p k st h = kill-does S p st h (inside processLimit (pos p) (k .0)) (not-null p (k .1 .0)) (ap isFree (sym h) ∙ k .1 .1 .0)
+  pub kill-did : (p : ℕ) → Accepted t (Kill (pos p)) → (st : State) → stateOf t p ≡ st → Loses t p (awaits st) (finish (stop (pos 1) (uncounted t (awaits st)) p freeSlot) .tables)
+  kill-did p k st h = kill-loses S p (awaits st) (ap awaits h) (below-limit processLimit (pos p) (k .0)) (not-null p (k .1 .0))
 
-  pub kill-frees : (p : ℕ) → outside processLimit (pos p) ≡ false → (st : State) → process (finish (stop (pos 1) (uncounted t st) p freeSlot) .tables) p ≡ freeSlot
-  kill-frees p h Free = slot-stopped (pos 1) t p freeSlot (slot-of p h) refl refl
-  kill-frees p h Current = slot-stopped (pos 1) t p freeSlot (slot-of p h) refl refl
-  kill-frees p h Ready = slot-stopped (pos 1) t p freeSlot (slot-of p h) refl refl
-  kill-frees p h Suspended = slot-stopped (pos 1) t p freeSlot (slot-of p h) refl refl
-  kill-frees p h (Waiting s) = slot-stopped (pos 1) (withCount t s (sucℤ (countOf t s))) p freeSlot (slot-of p h) refl refl
+  pub kill-frees : (p : ℕ) → outside processLimit (pos p) ≡ false → (w : Option ℕ) → process (finish (stop (pos 1) (uncounted t w) p freeSlot) .tables) p ≡ freeSlot
+  kill-frees p h none = slot-stopped (pos 1) t p freeSlot (slot-of p h) refl refl
+  kill-frees p h (some s) = slot-stopped (pos 1) (withCount t s (sucℤ (countOf t s))) p freeSlot (slot-of p h) refl refl

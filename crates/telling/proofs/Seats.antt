@@ -1,7 +1,7 @@
 -- What each step of a call does to the seats: who is ready, in order, and who runs. Assumes nothing.
 use Prim.Native.Nat.{ℕ, _≤_, _<_}
 use native.Mathlib.Omega.{arith}
-use mathlib.Core.Bool.{Bool, true, false, not, true≢false, false≢true}
+use mathlib.Core.Bool.{Bool, true, false, not, false≢true}
 use mathlib.Core.List.{List, [], _∷_}
 use mathlib.Core.Logic.{_≢_}
 use mathlib.Core.Path.{_≡_, refl, sym, ap, _∙_, fun-ext}
@@ -17,21 +17,23 @@ use Rattle.tables.specs.declared.Semaphore.{Semaphore}
 use Rattle.tables.specs.declared.Tables.{Tables}
 use Rattle.tables.specs.Limits.{processLimit}
 use Rattle.tables.specs.States.{isFree, isCurrent, isReady, waitsOn}
-use Rattle.tables.specs.Readers.{process, stateOf, priorityOf, isUsed, countOf, line, readyList, queue, currents, currentOf}
+use Rattle.tables.specs.Readers.{stateOf, priorityOf, isUsed, countOf, line, readyList, queue, currents, currentOf}
 use Rattle.tables.specs.Setters.{withCursors, withProcess, withSemaphore, withState, withCount}
 use Rattle.tables.specs.Sound.{Laid, Counted, Sound}
 use Rattle.tables.proofs.States.{is-current, is-ready, waits-on}
-use Rattle.tables.proofs.LineLaws.{at-same, at-other, priority-kept, line-leave, line-absent, line-first, live-below, live-slot, live-once, in-line}
+use Rattle.tables.proofs.LineLaws.{line-leave, line-absent, line-first, live-below, live-slot, live-once, in-line}
 use Rattle.tables.proofs.Sentences.{current-only, current-is, current-below}
-use Rattle.rules.specs.Schedule.{joining, makeReady, makeAllReady, makeWait, startFirst, switch, reschedule}
+use Rattle.rules.specs.Schedule.{makeReady, makeAllReady, makeWait, startFirst, switch, reschedule}
 use Rattle.rules.specs.Calls.{below0, switching, release, stop, finish}
-use Rattle.rules.specs.Telling.{Seats, seats, seated, behind, allBehind, headRuns, reseat, released}
-use Rattle.rules.proofs.Moves.{Moved, moved-state, moved-join, ready-moved, laid-ready, ready-behind}
+use Rattle.telling.specs.Telling.{Seats, seats, seated, behind, allBehind, headRuns, reseat, released}
+use Rattle.rules.proofs.Moves.{Turned, moved-slot, moved-join, turned-priority, ready-moved, laid-ready}
+use Rattle.rules.proofs.Joins.{ready-joined}
 use Rattle.rules.proofs.Resched.{line-kept, line-enter, Prepared}
 use Rattle.rules.proofs.Effects.{line-entry, laid-entry}
 use Rattle.rules.proofs.WaitSignal.{wait-prepared, signal-prepared}
 use Rattle.rules.proofs.Release.{release-prepared}
 use Rattle.rules.proofs.Slots.{resume-prepared, yield-prepared}
+use Rattle.telling.proofs.Fields.{all-ready-keeps, priority-apart}
 
 seats-of : {r r′ c c′ : List ℕ} → r′ ≡ r → c′ ≡ c → seated r′ c′ ≡ seated r c
 seats-of e k = rw (e, k)
@@ -49,6 +51,12 @@ pub seats-set : (t : Tables) (p : ℕ) (y : Process) → p < length (t .processe
     → seats (withProcess t p y) ≡ seated (without p (readyList t)) (without p (currents t))
 seats-set t p y hp hr hc = seats-of (line-leave t p y isReady hp hr) (line-leave t p y isCurrent hp hc)
 
+-- behind every ready one of equal or higher priority
+pub ready-behind : {t : Tables} → Laid t → (p : ℕ) → p < processLimit → isReady (stateOf t p) ≡ false → readyList (makeReady t p) ≡ behind (priorityOf t) p (readyList t)
+ready-behind {t} l p below h =
+    ready-joined (λ x. ltb (priorityOf t x) (priorityOf t p)) t p (live-slot l p below) (live-once l p below)
+    ∙ ap (behind (priorityOf t) p) (line-absent t p isReady h)
+
 -- p becomes ready that was neither ready nor current
 pub seats-makeReady : {t : Tables} (l : Laid t) (p : ℕ) → p < processLimit → isReady (stateOf t p) ≡ false → isCurrent (stateOf t p) ≡ false → seats (makeReady t p) ≡ seated (behind (priorityOf t) p (readyList t)) (currents t)
 seats-makeReady l p below h k = seats-of (ready-behind l p below h) (line-kept (ready-moved l p below) isCurrent refl k)
@@ -59,7 +67,7 @@ unfolding makeAllReady allBehind
 seats-makeAllReady s [] l e = refl
 seats-makeAllReady s (f ∷ fs) {t} l e =
     seats-makeAllReady s fs (laid-ready l f below (ap isFree waits)) rest
-    ∙ rw (fun-ext (m .priority), ready-behind l f below (ap isReady waits), line-kept m isCurrent refl (ap isCurrent waits))
+    ∙ rw (fun-ext (turned-priority m), ready-behind l f below (ap isReady waits), line-kept m isCurrent refl (ap isCurrent waits))
   where
     waits : stateOf t f ≡ Waiting s
     waits = waits-on (stateOf t f) s (line-first t (waitsOn s) f fs e)
@@ -67,7 +75,7 @@ seats-makeAllReady s (f ∷ fs) {t} l e =
     below : f < processLimit
     below = live-below l f (ap isFree waits)
 
-    m : Moved t (makeReady t f) f Ready
+    m : Turned t (makeReady t f) f Ready
     m = ready-moved l f below
 
     rest : queue (makeReady t f) s ≡ fs
@@ -83,7 +91,7 @@ seats-makeWait {t} S s x =
     l : Laid (withSemaphore t s x)
     l = laid-entry (S .laid) s x
 
-    m : Moved (withSemaphore t s x) (makeWait (withSemaphore t s x) (currentOf t) s) (currentOf t) (Waiting s)
+    m : Turned (withSemaphore t s x) (makeWait (withSemaphore t s x) (currentOf t) s) (currentOf t) (Waiting s)
     m = moved-join (withSemaphore t s x) (currentOf t) _ (Waiting s) (live-slot l (currentOf t) (current-below S)) (live-once l (currentOf t) (current-below S))
 
 -- Rescheduling
@@ -102,8 +110,8 @@ start-seats {t} l (f ∷ fs) e none =
     below : f < processLimit
     below = live-below l f (ap isFree here)
 
-    m : Moved t (withState t f Current) f Current
-    m = moved-state t f Current (live-slot l f below)
+    m : Turned t (withState t f Current) f Current
+    m = moved-slot t f _ (live-slot l f below)
 
 module _ {t : Tables} (l : Laid t) (few : length (currents t) ≤ 1) where
   by-cases : (r c : List ℕ) → readyList t ≡ r → currents t ≡ c → seats (switch t r c) ≡ reseat (priorityOf t) r c
@@ -159,14 +167,14 @@ module _ {t : Tables} (S : Sound t) where
           let waits : stateOf t f ≡ Waiting s = waits-on (stateOf t f) s (line-first t (waitsOn s) f fs e) in
           let below : f < processLimit = live-below (S .laid) f (ap isFree waits) in
           switched _ _ (signal-prepared S s hu c f fs e) (seats-makeReady l f below (ap isReady waits) (ap isCurrent waits))
-          ∙ ap (λ (rank : ℕ → ℕ). reseat rank (behind (priorityOf t) f (readyList t)) (currents t)) (fun-ext (ready-moved l f below .priority))
+          ∙ ap (λ (rank : ℕ → ℕ). reseat rank (behind (priorityOf t) f (readyList t)) (currents t)) (fun-ext (turned-priority (ready-moved l f below)))
 
   -- a suspended process has become ready
   pub seats-resumed : (p : ℕ) → stateOf t p ≡ Suspended → (v : ℤ) → seats (finish (switching v (makeReady t p)) .tables) ≡ reseat (priorityOf t) (behind (priorityOf t) p (readyList t)) (currents t)
   seats-resumed p h v =
       let below : p < processLimit = live-below (S .laid) p (ap isFree h) in
       switched _ _ (resume-prepared S p h v) (seats-makeReady (S .laid) p below (ap isReady h) (ap isCurrent h))
-      ∙ ap (λ (rank : ℕ → ℕ). reseat rank (behind (priorityOf t) p (readyList t)) (currents t)) (fun-ext (ready-moved (S .laid) p below .priority))
+      ∙ ap (λ (rank : ℕ → ℕ). reseat rank (behind (priorityOf t) p (readyList t)) (currents t)) (fun-ext (turned-priority (ready-moved (S .laid) p below)))
 
   pub seats-yielded : (v : ℤ) → seats (finish (switching v t) .tables) ≡ reseat (priorityOf t) (readyList t) (currents t)
   seats-yielded v = switched _ _ (yield-prepared S v) refl
@@ -185,11 +193,6 @@ module _ (v : ℤ) (t : Tables) (p : ℕ) (y : Process) (P : Prepared (stop v t 
   pub seats-stopped-other : isCurrent (stateOf t p) ≡ false → seats (finish (stop v t p y) .tables) ≡ seated (without p (readyList t)) (currents t)
   seats-stopped-other h = rw h (seats-set t p y below hr hc ∙ seats-of refl (line-absent t p isCurrent h))
 
-pub all-ready-priority : (q : List ℕ) (t : Tables) (x : ℕ) → priorityOf (makeAllReady t q) x ≡ priorityOf t x
-unfolding makeAllReady joining
-all-ready-priority [] t x = refl
-all-ready-priority (p ∷ ps) t x = all-ready-priority ps (makeReady t p) x ∙ priority-kept t p Ready x
-
 pub seats-released : {t : Tables} → Sound t → (s : ℕ) (x : Semaphore) → seats (finish (release t s x) .tables) ≡ released t s
 unfolding isEmpty makeAllReady line
 seats-released {t} S s x = go (queue t s) refl
@@ -202,43 +205,4 @@ seats-released {t} S s x = go (queue t s) refl
         let few : length (currents after) ≤ 1 = rw e at (release-prepared S s x .few) in
         seats-reschedule l few
         ∙ ap (λ (z : Seats). reseat (priorityOf after) (z .ready) (z .running)) (seats-makeAllReady s (p ∷ ps) (laid-entry (S .laid) s x) e)
-        ∙ ap (λ (rank : ℕ → ℕ). reseat rank (allBehind (priorityOf t) (p ∷ ps) (readyList t)) (currents t)) (fun-ext (all-ready-priority (p ∷ ps) (withSemaphore t s x)))
-
--- A process that is neither ready nor current keeps its slot
-
-start-slot : (t : Tables) (r : List ℕ) (x : ℕ) → readyList t ≡ r → isReady (stateOf t x) ≡ false → process (startFirst t r) x ≡ process t x
-unfolding startFirst
-start-slot t [] x e h = refl
-start-slot t (f ∷ fs) x e h = at-other t f _ x (λ d. true≢false (sym (line-first t isReady f fs e) ∙ rw d at h))
-
-pub join-slot : (t : Tables) (c x : ℕ) → x ≢ c → process (makeReady t c) x ≡ process t x
-unfolding joining
-join-slot t c x h = at-other t c _ x h
-
-pub wait-slot : (t : Tables) (c s x : ℕ) → x ≢ c → process (makeWait t c s) x ≡ process t x
-unfolding joining
-wait-slot t c s x h = at-other t c _ x h
-
-pub slot-kept : (t : Tables) (x : ℕ) → isReady (stateOf t x) ≡ false → isCurrent (stateOf t x) ≡ false → process (reschedule t) x ≡ process t x
-unfolding reschedule switch
-slot-kept t x h k = go (readyList t) (currents t) refl refl
-  where
-    on : (b : Bool) (c : ℕ) → x ≢ c → process (if b then t else startFirst (makeReady t c) (readyList (makeReady t c))) x ≡ process t x
-    on true c d = refl
-    on false c d = start-slot (makeReady t c) (readyList (makeReady t c)) x refl (ap (λ (r : Process). isReady (r .state)) (join-slot t c x d) ∙ h) ∙ join-slot t c x d
-
-    go : (r c : List ℕ) → readyList t ≡ r → currents t ≡ c → process (switch t r c) x ≡ process t x
-    go [] c e d = refl
-    go (f ∷ fs) [] e d = start-slot t (readyList t) x refl h
-    go (f ∷ fs) (c ∷ cs) e d = on (ltb (priorityOf t f) (priorityOf t c)) c (λ z. true≢false (sym (line-first t isCurrent c cs d) ∙ rw z at k))
-
--- what is written into the slot of a process that stops stands there afterwards
-pub slot-stopped : (v : ℤ) (t : Tables) (p : ℕ) (y : Process) → p < length (t .processes) → isReady (y .state) ≡ false → isCurrent (y .state) ≡ false → process (finish (stop v t p y) .tables) p ≡ y
-slot-stopped v t p y below hr hc = go (isCurrent (stateOf t p))
-  where
-    here : process (withProcess t p y) p ≡ y
-    here = at-same t p y below
-
-    go : (b : Bool) → process (if b then reschedule (withProcess t p y) else withProcess t p y) p ≡ y
-    go true = slot-kept (withProcess t p y) p (ap (λ (r : Process). isReady (r .state)) here ∙ hr) (ap (λ (r : Process). isCurrent (r .state)) here ∙ hc) ∙ here
-    go false = here
+        ∙ ap (λ (rank : ℕ → ℕ). reseat rank (allBehind (priorityOf t) (p ∷ ps) (readyList t)) (currents t)) (fun-ext (λ i. all-ready-keeps (priority-apart i) (withSemaphore t s x) (p ∷ ps)))

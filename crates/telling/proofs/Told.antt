@@ -16,27 +16,26 @@ use Rattle.lists.proofs.RoundLaws.{found}
 use Rattle.tables.specs.declared.State.the-variants.{Current, Ready, Suspended, Waiting}
 use Rattle.tables.specs.declared.Tables.{Tables}
 use Rattle.tables.specs.Limits.{processLimit, semaphoreLimit}
-use Rattle.tables.specs.States.{isFree, isCurrent, isReady, isSuspended}
+use Rattle.tables.specs.States.{isFree, isCurrent, isReady, isSuspended, awaits}
 use Rattle.tables.specs.Readers.{freeSlot, freeSemaphore, process, stateOf, priorityOf, isUsed, countOf, line, readyList, queue, currents, currentOf}
-use Rattle.tables.specs.Setters.{withCount}
+use Rattle.tables.specs.Setters.{inState, newSlot, withCount}
 use Rattle.tables.specs.Sound.{Laid, Sound}
 use Rattle.tables.proofs.States.{is-suspended}
 use Rattle.tables.proofs.LineLaws.{at-same, line-absent, live-slot}
 use Rattle.rules.specs.declared.Answer.the-variants.{Done, Refused}
 use Rattle.rules.specs.declared.Outcome.{Outcome}
 use Rattle.rules.specs.Schedule.{makeReady, switch, reschedule}
-use Rattle.rules.specs.Answers.{valueOf, done, refused, Check, _when_}
-use Rattle.rules.specs.Calls.{Call, Wait, Signal, MakeSemaphore, Delete, Reset, MakeProcess, Resume, Suspend, Kill, Yield, Count, below0, freeSemaphores, freeSlots, checks, step}
-use Rattle.rules.specs.Telling.{NoneHolds, Accepted, makes, makesOrKills, resumesOrSuspends, inUse, notInUse, seats, seated, behind, PutBehind, headRuns, reseat, released, Changes, Keeps}
-use Rattle.rules.proofs.Moves.{ready-behind}
+use Rattle.rules.specs.Answers.{valueOf, done, refused, Check, _when_, NoneHolds}
+use Rattle.rules.specs.Calls.{Call, Wait, Signal, MakeSemaphore, Delete, Reset, MakeProcess, Resume, Suspend, Kill, Yield, Count, below0, freeSemaphores, freeSlots, checks, Accepted, step}
+use Rattle.telling.specs.Telling.{MakesNothing, Spares, PassesBy, inUse, notInUse, seats, seated, behind, PutBehind, headRuns, reseat, released, Changes, Keeps}
 use Rattle.rules.proofs.WaitSignal.{blocks-not-null}
 use Rattle.rules.proofs.Slots.{kill-prepared}
 use Rattle.rules.proofs.Refusals.{step-done, step-refused, step-first}
-use Rattle.rules.proofs.Does.{not-null, used, does}
-use Rattle.rules.proofs.Seats.{seats-entry, seats-cursors, seats-reschedule, reseat-nobody, seats-blocked, seats-woken, seats-resumed, seats-yielded, seats-stopped-current, seats-stopped-other, seats-released, slot-stopped}
-use Rattle.rules.proofs.Cursors.{cursors-kept}
-use Rattle.rules.proofs.Others.{priority-stays, slot-stays}
-use Rattle.rules.proofs.Telling.{behind-put, changed, kept, only-current, made, formed, slot-found, slot-seats, slot-of, suspending, killing, kill-step, kill-did, kill-frees}
+use Rattle.rules.proofs.Changes.{not-null, used, call-changes}
+use Rattle.telling.proofs.Seats.{ready-behind, seats-entry, seats-cursors, seats-reschedule, reseat-nobody, seats-blocked, seats-woken, seats-resumed, seats-yielded, seats-stopped-current, seats-stopped-other, seats-released}
+use Rattle.telling.proofs.Fields.{cursors-kept, priority-stays}
+use Rattle.telling.proofs.Others.{slot-stopped, slot-stays}
+use Rattle.telling.proofs.Telling.{behind-put, changed, kept, only-current, made, formed, slot-found, slot-seats, slot-of, suspending, killing, kill-step, kill-did, kill-frees}
 
 -- Refusals
 
@@ -67,17 +66,17 @@ module _ (t : Tables) (n : ℕ) where
 -- Cursors
 
 -- no call but a make moves a cursor
-pub cursors-stay : (t : Tables) (c : Call) → makes c ≡ false → (step t c .tables .«next_semaphore» ≡ t .«next_semaphore») × (step t c .tables .«next_process» ≡ t .«next_process»)
+pub cursors-stay : (t : Tables) (c : Call) → MakesNothing c → (step t c .tables .«next_semaphore» ≡ t .«next_semaphore») × (step t c .tables .«next_process» ≡ t .«next_process»)
 cursors-stay = cursors-kept
 
 -- Processes that a call doesn't speak of
 
 -- no priority changes but by a make or a kill
-pub priorities-stay : (t : Tables) (c : Call) (x : ℕ) → makesOrKills t c x ≡ false → priorityOf (step t c .tables) x ≡ priorityOf t x
+pub priorities-stay : (t : Tables) (c : Call) (x : ℕ) → Spares t c x → priorityOf (step t c .tables) x ≡ priorityOf t x
 priorities-stay = priority-stays
 
 -- a free or suspended process stays so, unless the call makes, kills, resumes or suspends it
-pub quiet-stay : {t : Tables} → Sound t → (x : ℕ) → (isFree (stateOf t x) || isSuspended (stateOf t x)) ≡ true → (c : Call) → makesOrKills t c x ≡ false → resumesOrSuspends c x ≡ false → process (step t c .tables) x ≡ process t x
+pub quiet-stay : {t : Tables} → Sound t → (x : ℕ) → (isFree (stateOf t x) || isSuspended (stateOf t x)) ≡ true → (c : Call) → PassesBy t c x → process (step t c .tables) x ≡ process t x
 quiet-stay = slot-stays
 
 -- Rescheduling
@@ -112,23 +111,23 @@ module _ {t : Tables} (S : Sound t) where
   pub wait-blocks : (s : ℕ) → Accepted t (Wait (pos s)) → below0 (predℤ (countOf t s)) ≡ true
       → Changes t (step t (Wait (pos s))) (pos 1) s (inUse (predℤ (countOf t s)) (queue t s ++ currentOf t ∷ [])) (headRuns (readyList t))
   wait-blocks s k h =
-      changed S (Wait (pos s)) (step-done t (Wait (pos s)) k ∙ rw h) refl (rw h at (does S (Wait (pos s)) k))
-      (seats-blocked S s (used S (pos s) (k .1 .0)) (predℤ (countOf t s)) (blocks-not-null (countOf t s) (currentOf t) (k .1 .1 .0) h))
+      changed S (Wait (pos s)) (step-done t (Wait (pos s)) k ∙ rw h) refl (rw h at (call-changes S (Wait (pos s)) k .1))
+      (seats-blocked S s (used t s (k .1 .0)) (predℤ (countOf t s)) (blocks-not-null (countOf t s) (currentOf t) (k .1 .1 .0) h))
 
   -- it isn't: no queue changes, and the caller still runs
   pub wait-passes : (s : ℕ) → Accepted t (Wait (pos s)) → below0 (predℤ (countOf t s)) ≡ false → Changes t (step t (Wait (pos s))) (pos 1) s (inUse (predℤ (countOf t s)) (queue t s)) (seats t)
-  wait-passes s k h = changed S (Wait (pos s)) (step-done t (Wait (pos s)) k ∙ rw h) refl (rw h at (does S (Wait (pos s)) k)) (seats-entry t s _)
+  wait-passes s k h = changed S (Wait (pos s)) (step-done t (Wait (pos s)) k ∙ rw h) refl (rw h at (call-changes S (Wait (pos s)) k .1)) (seats-entry t s _)
 
   -- 02 signal s: count plus 1
 
   -- the old count was below 0: the queue's head becomes ready, no other queue changes, then reschedule
   pub signal-releases : (s : ℕ) → Accepted t (Signal (pos s)) → below0 (countOf t s) ≡ true
       → Changes t (step t (Signal (pos s))) (pos 1) s (inUse (sucℤ (countOf t s)) (drop 1 (queue t s))) (reseat (priorityOf t) (behind (priorityOf t) (first (queue t s)) (readyList t)) (currents t))
-  signal-releases s k h = changed S (Signal (pos s)) (step-done t (Signal (pos s)) k ∙ rw h) refl (rw h at (does S (Signal (pos s)) k)) (seats-woken S s (used S (pos s) (k .1 .0)) (sucℤ (countOf t s)) h)
+  signal-releases s k h = changed S (Signal (pos s)) (step-done t (Signal (pos s)) k ∙ rw h) refl (rw h at (call-changes S (Signal (pos s)) k .1)) (seats-woken S s (used t s (k .1 .0)) (sucℤ (countOf t s)) h)
 
   -- it wasn't: no queue changes, and the caller still runs
   pub signal-counts : (s : ℕ) → Accepted t (Signal (pos s)) → below0 (countOf t s) ≡ false → Changes t (step t (Signal (pos s))) (pos 1) s (inUse (sucℤ (countOf t s)) (queue t s)) (seats t)
-  signal-counts s k h = changed S (Signal (pos s)) (step-done t (Signal (pos s)) k ∙ rw h) refl (rw h at (does S (Signal (pos s)) k)) (seats-entry t s _)
+  signal-counts s k h = changed S (Signal (pos s)) (step-done t (Signal (pos s)) k ∙ rw h) refl (rw h at (call-changes S (Signal (pos s)) k .1)) (seats-entry t s _)
 
   -- 03 make a semaphore, count a; s is the number answered
 
@@ -139,7 +138,7 @@ module _ {t : Tables} (S : Sound t) where
 
     -- it is in use then, with count a and no queue; no other semaphore and no seat changes
     pub make-semaphore-makes : Changes t (step t (MakeSemaphore a)) (pos s) s (inUse a []) (seats t)
-    make-semaphore-makes = rw (← (made S a s k e)) (changed S (MakeSemaphore a) (step-done t (MakeSemaphore a) k) refl (does S (MakeSemaphore a) k) (seats-cursors _ _ _ ∙ seats-entry t (first (freeSemaphores t)) _))
+    make-semaphore-makes = rw (← (made S a s k e)) (changed S (MakeSemaphore a) (step-done t (MakeSemaphore a) k) refl (call-changes S (MakeSemaphore a) k .1) (seats-cursors _ _ _ ∙ seats-entry t (first (freeSemaphores t)) _))
 
     -- the cursor is one past it, and the limit becomes 0
     pub make-semaphore-cursor : step t (MakeSemaphore a) .tables .«next_semaphore» ≡ (if eqb (suc s) semaphoreLimit then 0 else suc s)
@@ -147,11 +146,11 @@ module _ {t : Tables} (S : Sound t) where
 
   -- 04 delete s: the entry is free, count 0; all waiters become ready in queue order; then one reschedule if there was any
   pub delete-frees : (s : ℕ) → Accepted t (Delete (pos s)) → Changes t (step t (Delete (pos s))) (pos 1) s notInUse (released t s)
-  delete-frees s k = changed S (Delete (pos s)) (step-done t (Delete (pos s)) k) refl (does S (Delete (pos s)) k) (seats-released S s freeSemaphore)
+  delete-frees s k = changed S (Delete (pos s)) (step-done t (Delete (pos s)) k) refl (call-changes S (Delete (pos s)) k .1) (seats-released S s freeSemaphore)
 
   -- 05 reset s to b: all waiters become ready in queue order, count b; then one reschedule if there was any
   pub reset-sets : (s : ℕ) (b : ℤ) → Accepted t (Reset (pos s) b) → Changes t (step t (Reset (pos s) b)) (pos 1) s (inUse b []) (released t s)
-  reset-sets s b k = changed S (Reset (pos s) b) (step-done t (Reset (pos s) b) k) refl (does S (Reset (pos s) b) k) (seats-released S s (record { used = true; count = b }))
+  reset-sets s b k = changed S (Reset (pos s) b) (step-done t (Reset (pos s) b) k) refl (call-changes S (Reset (pos s) b) k .1) (seats-released S s (record { used = true; count = b }))
 
   -- 06 make a process, priority n; p is the number answered
 
@@ -163,10 +162,10 @@ module _ {t : Tables} (S : Sound t) where
     -- no semaphore and no seat changes
     pub make-process-keeps : Keeps t (step t (MakeProcess (pos n))) (pos p) (seats t)
     make-process-keeps =
-        rw (← (formed S (pos n) p k e)) (kept S (MakeProcess (pos n)) (step-done t (MakeProcess (pos n)) k) refl (does S (MakeProcess (pos n)) k) (seats-cursors _ _ _ ∙ slot-seats S _ refl refl (k .1 .0)))
+        rw (← (formed S (pos n) p k e)) (kept S (MakeProcess (pos n)) (step-done t (MakeProcess (pos n)) k) refl (call-changes S (MakeProcess (pos n)) k .1) (seats-cursors _ _ _ ∙ slot-seats S _ refl refl (k .1 .0)))
 
     -- it is suspended then, with priority n
-    pub make-process-slot : process (step t (MakeProcess (pos n)) .tables) p ≡ record { state = Suspended; priority = n }
+    pub make-process-slot : process (step t (MakeProcess (pos n)) .tables) p ≡ newSlot n
     make-process-slot = rw (← (formed S (pos n) p k e), step-done t (MakeProcess (pos n)) k) (at-same t (first (freeSlots t)) _ (live-slot (S .laid) (first (freeSlots t)) (slot-found S (k .1 .0) .below)))
 
     -- the cursor is one past it, and the limit becomes 0
@@ -176,22 +175,22 @@ module _ {t : Tables} (S : Sound t) where
   -- 07 resume p: a suspended process becomes ready, then reschedule; its priority
   pub resume-readies : (p : ℕ) → Accepted t (Resume (pos p)) → Keeps t (step t (Resume (pos p))) (pos (priorityOf t p)) (reseat (priorityOf t) (behind (priorityOf t) p (readyList t)) (currents t))
   resume-readies p k =
-      kept S (Resume (pos p)) (step-done t (Resume (pos p)) k) refl (does S (Resume (pos p)) k)
+      kept S (Resume (pos p)) (step-done t (Resume (pos p)) k) refl (call-changes S (Resume (pos p)) k .1)
       (seats-resumed S p (is-suspended (stateOf t p) (not-false (isSuspended (stateOf t p)) (k .1 .1 .0))) (pos (priorityOf t p)))
 
   -- 08 suspend p; its priority
 
   -- a ready process leaves the list
   pub suspend-ready : (p : ℕ) → Accepted t (Suspend (pos p)) → stateOf t p ≡ Ready → Keeps t (step t (Suspend (pos p))) (pos (priorityOf t p)) (seated (without p (readyList t)) (currents t))
-  suspend-ready p k h = kept S (Suspend (pos p)) (step-done t (Suspend (pos p)) k) refl (does S (Suspend (pos p)) k) (seats-stopped-other _ t p _ (suspending S p k) (slot-of S p (k .0)) refl refl (ap isCurrent h))
+  suspend-ready p k h = kept S (Suspend (pos p)) (step-done t (Suspend (pos p)) k) refl (call-changes S (Suspend (pos p)) k .1) (seats-stopped-other _ t p _ (suspending S p k) (slot-of S p (k .0)) refl refl (ap isCurrent h))
 
   -- the current one stops, and the first ready process runs
   pub suspend-current : (p : ℕ) → Accepted t (Suspend (pos p)) → stateOf t p ≡ Current → Keeps t (step t (Suspend (pos p))) (pos (priorityOf t p)) (headRuns (readyList t))
   suspend-current p k h =
-      kept S (Suspend (pos p)) (step-done t (Suspend (pos p)) k) refl (does S (Suspend (pos p)) k) (seats-stopped-current _ t p _ (suspending S p k) (slot-of S p (k .0)) refl refl h (only-current S p h))
+      kept S (Suspend (pos p)) (step-done t (Suspend (pos p)) k) refl (call-changes S (Suspend (pos p)) k .1) (seats-stopped-current _ t p _ (suspending S p k) (slot-of S p (k .0)) refl refl h (only-current S p h))
 
   -- it is suspended then, and keeps its priority
-  pub suspend-slot : (p : ℕ) → Accepted t (Suspend (pos p)) → process (step t (Suspend (pos p)) .tables) p ≡ record { state = Suspended; priority = priorityOf t p }
+  pub suspend-slot : (p : ℕ) → Accepted t (Suspend (pos p)) → process (step t (Suspend (pos p)) .tables) p ≡ inState Suspended (process t p)
   suspend-slot p k = rw (step-done t (Suspend (pos p)) k) (slot-stopped (pos (priorityOf t p)) t p _ (slot-of S p (k .0)) refl refl)
 
   -- 09 kill p
@@ -220,11 +219,11 @@ module _ {t : Tables} (S : Sound t) where
 
   -- the slot is free then, with priority 0
   pub kill-slot : (p : ℕ) → Accepted t (Kill (pos p)) → process (step t (Kill (pos p)) .tables) p ≡ freeSlot
-  kill-slot p k = rw (step-done t (Kill (pos p)) k) (kill-frees S p (k .0) (stateOf t p))
+  kill-slot p k = rw (step-done t (Kill (pos p)) k) (kill-frees S p (k .0) (awaits (stateOf t p)))
 
   -- 0a yield: reschedule
   pub yield-reschedules : Keeps t (step t Yield) (pos 1) (reseat (priorityOf t) (readyList t) (currents t))
-  yield-reschedules = kept S Yield (step-done t Yield tt) refl (does S Yield tt) (seats-yielded S (pos 1))
+  yield-reschedules = kept S Yield (step-done t Yield tt) refl (call-changes S Yield tt .1) (seats-yielded S (pos 1))
 
   -- 0b count of s: nothing changes; the count
   pub count-tells : (s : ℕ) → Accepted t (Count (pos s)) → step t (Count (pos s)) ≡ done (countOf t s) t

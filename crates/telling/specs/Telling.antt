@@ -4,66 +4,30 @@ use mathlib.Core.Bool.{Bool, true, false}
 use mathlib.Core.List.{List, [], _∷_, _++_}
 use mathlib.Core.Logic.{_≢_}
 use mathlib.Core.Path.{_≡_}
-use lib.Dec.{eqb, ltb}
-use lib.IntN.{ℤ, pos, natAbs}
+use lib.Dec.{ltb}
+use lib.IntN.{ℤ, pos}
 use Rattle.lists.specs.Lists.{if_then_else_, putBefore, times, isEmpty, first}
 use Rattle.tables.specs.declared.Tables.{Tables}
 use Rattle.tables.specs.Readers.{priorityOf, isUsed, countOf, readyList, queue, currents}
 use Rattle.rules.specs.declared.Answer.the-variants.{Done}
 use Rattle.rules.specs.declared.Outcome.{Outcome}
-use Rattle.rules.specs.Answers.{Check}
-use Rattle.rules.specs.Calls.{Call, Wait, Signal, MakeSemaphore, Delete, Reset, MakeProcess, Resume, Suspend, Kill, Yield, Count, freeSlots, checks}
+use Rattle.rules.specs.Calls.{Call, MakeSemaphore, MakeProcess, Resume, Suspend, Kill, freeSlots}
 
--- none of these checks holds
-abbrev pub NoneHolds : List Check → Type 0
-NoneHolds [] = Unit
-NoneHolds (c ∷ cs) = (c .holds ≡ false) × NoneHolds cs
+-- the call makes no semaphore and no process
+pub record MakesNothing (c : Call) : Type 0 where
+  pub semaphore : (a : ℤ) → c ≢ MakeSemaphore a
+  pub process : (a : ℤ) → c ≢ MakeProcess a
 
--- none of the call's checks holds, so that it is done
-abbrev pub Accepted : Tables → Call → Type 0
-Accepted t c = NoneHolds (checks t c)
+-- the call neither makes process x nor kills it
+pub record Spares (t : Tables) (c : Call) (x : ℕ) : Type 0 where
+  pub unmade : (a : ℤ) → c ≡ MakeProcess a → x ≢ first (freeSlots t)
+  pub unkilled : c ≢ Kill (pos x)
 
--- the two calls that make a semaphore or a process
-abbrev pub makes : Call → Bool
-makes (Wait a) = false
-makes (Signal a) = false
-makes (MakeSemaphore a) = true
-makes (Delete a) = false
-makes (Reset a b) = false
-makes (MakeProcess a) = true
-makes (Resume a) = false
-makes (Suspend a) = false
-makes (Kill a) = false
-makes Yield = false
-makes (Count a) = false
-
--- the call makes process x or kills it
-abbrev pub makesOrKills : Tables → Call → ℕ → Bool
-makesOrKills t (Wait a) x = false
-makesOrKills t (Signal a) x = false
-makesOrKills t (MakeSemaphore a) x = false
-makesOrKills t (Delete a) x = false
-makesOrKills t (Reset a b) x = false
-makesOrKills t (MakeProcess a) x = eqb x (first (freeSlots t))
-makesOrKills t (Resume a) x = false
-makesOrKills t (Suspend a) x = false
-makesOrKills t (Kill a) x = eqb x (natAbs a)
-makesOrKills t Yield x = false
-makesOrKills t (Count a) x = false
-
--- the call resumes process x or suspends it
-abbrev pub resumesOrSuspends : Call → ℕ → Bool
-resumesOrSuspends (Wait a) x = false
-resumesOrSuspends (Signal a) x = false
-resumesOrSuspends (MakeSemaphore a) x = false
-resumesOrSuspends (Delete a) x = false
-resumesOrSuspends (Reset a b) x = false
-resumesOrSuspends (MakeProcess a) x = false
-resumesOrSuspends (Resume a) x = eqb x (natAbs a)
-resumesOrSuspends (Suspend a) x = eqb x (natAbs a)
-resumesOrSuspends (Kill a) x = false
-resumesOrSuspends Yield x = false
-resumesOrSuspends (Count a) x = false
+-- nor does it resume or suspend it
+pub record PassesBy (t : Tables) (c : Call) (x : ℕ) : Type 0 where
+  pub spares : Spares t c x
+  pub unresumed : c ≢ Resume (pos x)
+  pub unsuspended : c ≢ Suspend (pos x)
 
 -- how a semaphore is seen
 pub record Seen : Type 0 where

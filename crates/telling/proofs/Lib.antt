@@ -1,0 +1,6 @@
+pub mod Fields
+pub mod Seats
+pub mod Others
+pub mod Telling
+pub mod Told
+pub mod Session
