@@ -30,7 +30,7 @@ use Rattle.tables.specs.Sound.{Sound}
 use Rattle.tables.specs.declared.Tables.{Tables}
 use Rattle.tables.specs.Counts.{CountsFit}
 use Rattle.layout.proofs.Image.{formed-made, tables-back}
-use Rattle.promises.proofs.Main.{demand3}
+use Rattle.promises.proofs.Demand.{demand3}
 use Rattle.promises.proofs.Runs.{boot-run-fits, boot-run-sound}
 use Rattle.rules.proofs.Fits.{fits-numbered}
 use Rattle.rules.proofs.Kept.{sound-numbered}

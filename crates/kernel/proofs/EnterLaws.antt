@@ -17,7 +17,7 @@ use Rattle.rules.specs.Enter.{Form, neither, first, both, formOf, callOf, isZer
 use Rattle.rules.specs.Schedule.{reschedule}
 use Rattle.rules.specs.declared.Answer.{Answer}
 use Rattle.rules.specs.declared.Answer.the-variants.{Done, Refused}
-use Rattle.rules.proofs.Numbers.{number-known, number-zero, number-past, number-spare, number-goes}
+use Rattle.rules.proofs.Numbers.{number-known, number-past, number-unknown, number-spare, number-goes}
 use Rattle.kernel.specs.Meets.{Meets}
 use Rattle.kernel.specs.Unused.{unused}
 use Rattle.kernel.proofs.CallLaws.{alike, does, refuses}
@@ -99,10 +99,10 @@ unused-is (suc (suc (suc (suc (suc (suc (suc (suc (suc (suc (suc (suc n)))))))))
 
 module _ (n : ℕ) (a b : ℤ) (bs : List ℕ) where
   pub low-13 : n < 1 → Meets (λ t. numbered t n a b) bs bs (Refused 13)
-  low-13 h = let z : n ≡ 0 = omega arith in refuses (λ t. numbered t n a b) 13 bs (λ t st S. rw z (number-zero t a b))
+  low-13 h = let z : n ≡ 0 = omega arith in refuses (λ t. numbered t n a b) 13 bs (λ t st S. rw z (number-unknown t a b 0 refl))
 
   pub high-13 : 11 < n → Meets (λ t. numbered t n a b) bs bs (Refused 13)
-  high-13 h = refuses (λ t. numbered t n a b) 13 bs (λ t st S. number-past t a b n h)
+  high-13 h = refuses (λ t. numbered t n a b) 13 bs (λ t st S. number-unknown t a b n (number-past n h))
 
 -- an argument that was passed on is read back from its bits
 module _ (n : ℕ) (a b : ℤ) (fa : SFits w32 a) (fb : SFits w32 b) (low : 1 ≤ n) (high : n ≤ 11) where

@@ -1,17 +1,14 @@
 -- Laws of what is listed and of what holds of every number below a limit. Assumes nothing.
-use Prim.Native.Nat.{_+_, _<_, _≤_, suc, zero, ℕ}
+use Prim.Native.Nat.{_+_, _<_, suc, zero, ℕ}
 use native.Mathlib.Numerals.{add-one}
 use native.Mathlib.Omega.{arith}
 use mathlib.Core.Path.{_∙_, _≡_, ap, refl, sym}
 use mathlib.Core.Bool.{Bool, _&&_, false, true}
 use mathlib.Core.List.{List, [], _++_, _∷_}
-use lib.Dec.{eqb, ltb}
 use lib.ListN.{getD, length, set, take}
 use lib.Seq.{take-all, take-suc, take-suc-set}
-use borrow.Author.Tests.{eqb-false, eqb-true, le-ltb, lt-ltb, ne-eqb}
-use Rattle.lists.specs.Lists.{if_then_else_, times}
-use Rattle.lists.specs.Numbers.{all, countUp, listed}
-use Rattle.lists.proofs.Bools.{and-no, below?, both, either}
+use Rattle.lists.specs.Numbers.{all, listed}
+use Rattle.lists.proofs.Bools.{and-no, both, either}
 
 -- listed
 
@@ -84,28 +81,3 @@ pub all-ext : (n : ℕ) (f g : ℕ → Bool) → ((i : ℕ) → i < n → f i �
 unfolding all
 all-ext zero f g h = refl
 all-ext (suc n) f g h = rw (all-ext n f g (λ i k. h i (omega arith)), h n (omega arith))
-
--- countUp
-
-times-before : (x k n : ℕ) → x < k → times x (countUp k n) ≡ 0
-unfolding times listed
-times-before x k zero h = refl
-times-before x k (suc n) h = rw (ne-eqb k x (λ e. omega arith)) (times-before x (suc k) n (omega arith))
-
-times-behind : (x k n : ℕ) → k + n ≤ x → times x (countUp k n) ≡ 0
-unfolding times listed
-times-behind x k zero h = refl
-times-behind x k (suc n) h = rw (ne-eqb k x (λ e. omega arith)) (times-behind x (suc k) n (omega arith))
-
-times-inside : (x k n : ℕ) → k ≤ x → x < k + n → times x (countUp k n) ≡ 1
-unfolding times listed
-times-inside x k zero h a = absurd (omega arith)
-times-inside x k (suc n) h a = go (eqb k x) refl (times-inside x (suc k) n)
-  where
-    go : (b : Bool) → eqb k x ≡ b → (suc k ≤ x → x < suc k + n → times x (countUp (suc k) n) ≡ 1) → (if b then suc (times x (countUp (suc k) n)) else times x (countUp (suc k) n)) ≡ 1
-    go true e ih = let d : k ≡ x = eqb-true k x e in ap suc (times-before x (suc k) n (omega arith))
-    go false e ih = let d = eqb-false k x e in ih (omega arith) (omega arith)
-
--- each number below n once, and no other
-pub times-countUp : (n x : ℕ) → times x (countUp 0 n) ≡ (if ltb x n then 1 else 0)
-times-countUp n x = below? x n (λ h. rw (lt-ltb x n h) (times-inside x 0 n (omega arith) (omega arith))) (λ h. rw (le-ltb x n h) (times-behind x 0 n (omega arith)))

@@ -84,7 +84,7 @@ unfolding filter
 filter-at f g [] h = refl
 filter-at f g (x ∷ xs) h = rw (h 0 (omega arith), filter-at f g xs (λ i l. h (suc i) (omega arith))) refl
 
--- What is found
+-- What is round-found
 
 -- x is the first of a list that passes the test: it stands at place i, and no entry before it passes
 pub record FirstAt (f : ℕ → Bool) (xs : List ℕ) (x i : ℕ) : Type 0 where
@@ -124,8 +124,8 @@ round-at size k i h l =
     rw (le-ltb (k + i) size c)
     (ap (λ (m : ℕ). getD (countUp k (size - k) ++ countUp 0 k) m 0) e ∙ getD-append-add (countUp k (size - k)) (countUp 0 k) (k + i - size) 0 ∙ listed-at (λ i. i) k (k + i - size) 0 (omega arith)))
 
-pub found : (f : ℕ → Bool) (size k : ℕ) → k < size → isEmpty (filter f (roundFrom size k)) ≡ false → FirstFrom f size k (first (filter f (roundFrom size k)))
-found f size k h e = go (searched f (roundFrom size k) e)
+pub round-found : (f : ℕ → Bool) (size k : ℕ) → k < size → isEmpty (filter f (roundFrom size k)) ≡ false → FirstFrom f size k (first (filter f (roundFrom size k)))
+round-found f size k h e = go (searched f (roundFrom size k) e)
   where
     go : (i : ℕ) × FirstAt f (roundFrom size k) (first (filter f (roundFrom size k))) i → FirstFrom f size k (first (filter f (roundFrom size k)))
     go (i, r) =

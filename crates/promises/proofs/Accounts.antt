@@ -9,9 +9,9 @@ use lib.IntN.{ℤ, sucℤ, predℤ}
 use lib.ListN.{drop}
 use Rattle.lists.specs.Lists.{if_then_else_, filter, without}
 use Rattle.rules.specs.Calls.{below0}
-use Rattle.promises.specs.Record.{standing, struck, taken, Numbered, stands, Account, stillBlocked, takeSmallest, strike, among, waited, signalled, killed, change}
+use Rattle.promises.specs.Record.{standing, struck, taken, WaitNumber, stands, Account, stillBlocked, takeSmallest, strike, among, waited, signalled, killed, change}
 
-pub blocked-snoc : (p : ℕ) (ws : List Numbered) → stillBlocked (ws ++ record { process = p; fate = standing } ∷ []) ≡ stillBlocked ws ++ p ∷ []
+pub blocked-snoc : (p : ℕ) (ws : List WaitNumber) → stillBlocked (ws ++ record { process = p; fate = standing } ∷ []) ≡ stillBlocked ws ++ p ∷ []
 unfolding stillBlocked
 blocked-snoc p [] = refl
 blocked-snoc p (w ∷ ws) = go (stands (w .fate)) (blocked-snoc p ws)
@@ -23,7 +23,7 @@ blocked-snoc p (w ∷ ws) = go (stands (w .fate)) (blocked-snoc p ws)
     go true ih = ap (λ (l : List ℕ). w .process ∷ l) ih
     go false ih = ih
 
-pub blocked-take : (ws : List Numbered) → stillBlocked (takeSmallest ws) ≡ drop 1 (stillBlocked ws)
+pub blocked-take : (ws : List WaitNumber) → stillBlocked (takeSmallest ws) ≡ drop 1 (stillBlocked ws)
 unfolding stillBlocked takeSmallest
 blocked-take [] = refl
 blocked-take (w ∷ ws) = go (stands (w .fate)) refl (blocked-take ws)
@@ -33,7 +33,7 @@ blocked-take (w ∷ ws) = go (stands (w .fate)) refl (blocked-take ws)
     go true e ih = refl
     go false e ih = rw e ih
 
-pub blocked-strike : (p : ℕ) (ws : List Numbered) → stillBlocked (strike p ws) ≡ without p (stillBlocked ws)
+pub blocked-strike : (p : ℕ) (ws : List WaitNumber) → stillBlocked (strike p ws) ≡ without p (stillBlocked ws)
 unfolding stillBlocked strike without filter
 blocked-strike p [] = refl
 blocked-strike p (w ∷ ws) = go (stands (w .fate)) (eqb (w .process) p) refl refl (blocked-strike p ws)

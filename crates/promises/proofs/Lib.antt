@@ -1,6 +1,6 @@
 pub mod Accounts
-pub mod Demand3
+pub mod CallAccounts
 pub mod Runs
-pub mod Main
+pub mod Demand
 pub mod Edges
 pub mod ShutOut

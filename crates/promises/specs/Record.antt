@@ -42,7 +42,7 @@ pub record Entry : Type 0 where
 pub data Fate : Type 0 where
   standing struck taken : Fate
 
-pub record Numbered : Type 0 where
+pub record WaitNumber : Type 0 where
   pub process : ℕ
   pub fate : Fate
 
@@ -54,24 +54,24 @@ stands taken = false
 -- what the record says of a semaphore since it was last made or reset
 pub record Account : Type 0 where
   pub count : ℤ
-  pub waits : List Numbered
+  pub waits : List WaitNumber
 
 -- the processes whose number is neither struck nor taken, in rising order
-unfoldable pub stillBlocked : List Numbered → List ℕ
+unfoldable pub stillBlocked : List WaitNumber → List ℕ
 stillBlocked [] = []
 stillBlocked (w ∷ ws) =
     let rest : List ℕ = stillBlocked ws in
     if stands (w .fate) then w .process ∷ rest else rest
 
 -- the smallest number neither struck nor taken is taken
-unfoldable pub takeSmallest : List Numbered → List Numbered
+unfoldable pub takeSmallest : List WaitNumber → List WaitNumber
 takeSmallest [] = []
 takeSmallest (w ∷ ws) =
-    let later : List Numbered = w ∷ takeSmallest ws in
+    let later : List WaitNumber = w ∷ takeSmallest ws in
     if stands (w .fate) then record { process = w .process; fate = taken } ∷ ws else later
 
 -- the number of a wait of p that is neither struck nor taken is struck
-unfoldable pub strike : ℕ → List Numbered → List Numbered
+unfoldable pub strike : ℕ → List WaitNumber → List WaitNumber
 strike p [] = []
 strike p (w ∷ ws) = (if stands (w .fate) && eqb (w .process) p then record { process = w .process; fate = struck } else w) ∷ strike p ws
 

@@ -1,7 +1,7 @@
 -- Every call keeps the counts within 32 bits, and its value is within them too. Assumes nothing.
 use Prim.Native.Nat.{_<_, suc, zero, ℕ}
 use native.Mathlib.Omega.{arith}
-use mathlib.Core.Bool.{Bool, false, not}
+use mathlib.Core.Bool.{Bool, false}
 use mathlib.Core.List.{List}
 use mathlib.Core.Option.{Option, none, some}
 use mathlib.Core.Path.{_≡_, ap, refl}
@@ -14,15 +14,14 @@ use borrow.Author.Tests.{leb-false}
 use Rattle.lists.specs.Lists.{first, times}
 use Rattle.tables.specs.declared.Semaphore.{Semaphore}
 use Rattle.tables.specs.declared.Tables.{Tables}
-use Rattle.tables.specs.Limits.{processLimit, semaphoreLimit}
-use Rattle.tables.specs.States.{isFree, awaits}
-use Rattle.tables.specs.Readers.{countOf, isUsed, priorityOf, process, queue, stateOf}
+use Rattle.tables.specs.Limits.{processLimit}
+use Rattle.tables.specs.States.{awaits}
+use Rattle.tables.specs.Readers.{countOf, priorityOf, process, queue, stateOf}
 use Rattle.tables.specs.Boot.{boot}
 use Rattle.tables.specs.Sound.{Counted, Sound}
 use Rattle.tables.specs.Counts.{CountsFit}
 use Rattle.lists.proofs.Bools.{either}
 use Rattle.lists.proofs.ListLaws.{times-empty}
-use Rattle.lists.proofs.RoundLaws.{found}
 use Rattle.tables.proofs.States.{awaits-some}
 use Rattle.tables.proofs.SlotLaws.{priority-top}
 use Rattle.tables.proofs.Sentences.{few-wait, sentences}
@@ -32,6 +31,7 @@ use Rattle.rules.specs.Calls.{Accepted, Call, Wait, Signal, MakeSemaphor
 use Rattle.rules.specs.Enter.{Form, forms, callOf, numbered}
 use Rattle.rules.proofs.Resched.{Settled}
 use Rattle.rules.proofs.Effects.{Effect, settled-shows}
+use Rattle.rules.proofs.Found.{slot-found, semaphore-found}
 use Rattle.rules.proofs.Refusals.{step-cases, branch, numbered-cases, AllForms, form-has}
 use Rattle.rules.proofs.Changes.{Change, untouched, lowered, raised, rewritten, loses, changeOf, Loses, Becomes, Allowed, call-changes}
 
@@ -94,10 +94,10 @@ module _ {t : Tables} (S : Sound t) (F : CountsFit t) where
   value-fits : (c : Call) → Accepted t c → SFits w32 (deed t c .value)
   value-fits (Wait a) k = branch (λ d. SFits w32 (d .value)) (below0 (predℤ (countOf t (natAbs a)))) _ _ (λ e. one-fits) (λ e. one-fits)
   value-fits (Signal a) k = branch (λ d. SFits w32 (d .value)) (below0 (countOf t (natAbs a))) _ _ (λ e. one-fits) (λ e. one-fits)
-  value-fits (MakeSemaphore a) (h, (k, z)) = small (first (freeSemaphores t)) (let z = found (λ r. not (isUsed t r)) semaphoreLimit (t .«next_semaphore») (S .laid .cursors .0) k .below in omega arith)
+  value-fits (MakeSemaphore a) (h, (k, z)) = small (first (freeSemaphores t)) (let z = semaphore-found S k .below in omega arith)
   value-fits (Delete a) k = one-fits
   value-fits (Reset a b) k = one-fits
-  value-fits (MakeProcess a) (h, (k, z)) = small (first (freeSlots t)) (let z = found (λ x. isFree (stateOf t x)) processLimit (t .«next_process») (S .laid .cursors .1) k .below in omega arith)
+  value-fits (MakeProcess a) (h, (k, z)) = small (first (freeSlots t)) (let z = slot-found S k .below in omega arith)
   value-fits (Resume a) k = priority-fits (natAbs a)
   value-fits (Suspend a) k = priority-fits (natAbs a)
   value-fits (Kill a) k = one-fits

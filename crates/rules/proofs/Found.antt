@@ -12,7 +12,7 @@ use borrow.Author.Tests.{eqb-false}
 use Rattle.lists.specs.Lists.{if_then_else_, isEmpty, first}
 use Rattle.lists.specs.Numbers.{FirstFrom}
 use Rattle.lists.proofs.Bools.{not-true}
-use Rattle.lists.proofs.RoundLaws.{found}
+use Rattle.lists.proofs.RoundLaws.{round-found}
 use Rattle.tables.specs.declared.State.{State}
 use Rattle.tables.specs.declared.Process.{Process}
 use Rattle.tables.specs.declared.Semaphore.{Semaphore}
@@ -48,6 +48,14 @@ past-below size n h = go (eqb (suc n) size) refl
     go false e = let k : suc n ≢ size = eqb-false (suc n) size e in omega arith
 
 module _ {t : Tables} (S : Sound t) where
+  -- the first free slot or entry from the cursor on, going round
+
+  pub slot-found : isEmpty (freeSlots t) ≡ false → FirstFrom (λ p. isFree (stateOf t p)) processLimit (t .«next_process») (first (freeSlots t))
+  slot-found h = round-found (λ p. isFree (stateOf t p)) processLimit (t .«next_process») (S .laid .cursors .1) h
+
+  pub semaphore-found : isEmpty (freeSemaphores t) ≡ false → FirstFrom (λ s. not (isUsed t s)) semaphoreLimit (t .«next_semaphore») (first (freeSemaphores t))
+  semaphore-found h = round-found (λ s. not (isUsed t s)) semaphoreLimit (t .«next_semaphore») (S .laid .cursors .0) h
+
   pub make-process-settled : (n : ℕ) → (1 ≤ n) × (n ≤ priorityLimit) → isEmpty (freeSlots t) ≡ false → Settled t (newProcess t (first (freeSlots t)) n .tables)
   make-process-settled n hn h =
       record {
@@ -63,14 +71,11 @@ module _ {t : Tables} (S : Sound t) where
       y : Process
       y = newSlot n
 
-      is : FirstFrom (λ x. isFree (stateOf t x)) processLimit (t .«next_process») p
-      is = found (λ x. isFree (stateOf t x)) processLimit (t .«next_process») (S .laid .cursors .1) h
-
       free : isFree (stateOf t p) ≡ true
-      free = is .passes
+      free = slot-found h .passes
 
       below : p < processLimit
-      below = is .below
+      below = slot-found h .below
 
       neither : (a b : Bool) → a ≡ false → b ≡ false → (a || b) ≡ true → ⊥
       neither a b x z w = true≢false (sym w ∙ ap (λ (c : Bool). c || b) x ∙ z)
@@ -92,11 +97,8 @@ module _ {t : Tables} (S : Sound t) where
       x : Semaphore
       x = record { used = true; count = c }
 
-      is : FirstFrom (λ r. not (isUsed t r)) semaphoreLimit (t .«next_semaphore») s
-      is = found (λ r. not (isUsed t r)) semaphoreLimit (t .«next_semaphore») (S .laid .cursors .0) h
-
       below : s < semaphoreLimit
-      below = is .below
+      below = semaphore-found h .below
 
       below′ : s < length (t .semaphores)
       below′ = let e : length (t .semaphores) ≡ semaphoreLimit = S .laid .entries in omega (arith, below)
@@ -105,4 +107,4 @@ module _ {t : Tables} (S : Sound t) where
       seen r = line-cursors (withSemaphore t s x) (onePast semaphoreLimit s) (t .«next_process») (waitsOn r) ∙ line-entry t s x (waitsOn r)
 
       empty : queue t s ≡ []
-      empty = subst (λ (k : ℤ). Counted k (queue t s)) (S .queued .unused s (not-true (isUsed t s) (is .passes))) (S .queued .counted s)
+      empty = subst (λ (k : ℤ). Counted k (queue t s)) (S .queued .unused s (not-true (isUsed t s) (semaphore-found h .passes))) (S .queued .counted s)

@@ -5,7 +5,7 @@ use mathlib.Core.Bool.{true, false}
 use mathlib.Core.List.{List, [], _∷_}
 use mathlib.Core.Option.{none, some}
 use mathlib.Core.Path.{_≡_, refl}
-use lib.IntN.{ℤ, pos}
+use lib.IntN.{ℤ}
 use lib.ListN.{length}
 use Rattle.tables.specs.declared.Tables.{Tables}
 use Rattle.tables.specs.Readers.{currentOf}
@@ -13,14 +13,18 @@ use Rattle.tables.specs.Sound.{Sound}
 use Rattle.tables.specs.Test.{soundNow}
 use Rattle.tables.proofs.TestLaws.{sound-checked}
 use Rattle.rules.specs.Answers.{refused}
-use Rattle.rules.specs.Calls.{Call, step}
-use Rattle.rules.specs.Enter.{Form, neither, first, both, forms, lineOf, formOf, callOf, spare, numbered, enter}
+use Rattle.rules.specs.Calls.{step}
+use Rattle.rules.specs.Enter.{Form, forms, lineOf, formOf, callOf, spare, numbered, enter}
 
--- past the end of a list there is no line
+-- past the end of the list there is no form
 no-line : (fs : List Form) (n : ℕ) → length fs ≤ n → lineOf fs n ≡ none
 no-line [] n h = refl
 no-line (f ∷ fs) zero h = absurd (omega arith)
 no-line (f ∷ fs) (suc n) h = no-line fs n (omega arith)
+
+pub number-past : (n : ℕ) → length forms < n → formOf n ≡ none
+number-past zero h = refl
+number-past (suc n) h = no-line forms n (omega arith)
 
 -- a number from 1 to the end has one
 a-line : (fs : List Form) (n : ℕ) → n < length fs → (f : Form) × (lineOf fs n ≡ some f)
@@ -33,30 +37,10 @@ number-known zero l h = absurd (omega arith)
 number-known (suc n) l h = a-line forms n (omega arith)
 
 module _ (t : Tables) (a : ℤ) where
-  -- the call with this number, by the arguments that it uses
-
-  pub number-neither : (n : ℕ) (c : Call) → formOf n ≡ some (neither c) → numbered t n (pos 0) (pos 0) ≡ step t c
+  -- a number without a form: 13, whatever the arguments
+  pub number-unknown : (b : ℤ) (n : ℕ) → formOf n ≡ none → numbered t n a b ≡ refused 13 t
   unfolding numbered
-  number-neither n c e = rw e
-
-  pub number-first : (n : ℕ) (c : ℤ → Call) → formOf n ≡ some (first c) → numbered t n a (pos 0) ≡ step t (c a)
-  unfolding numbered
-  number-first n c e = rw e
-
-  pub number-both : (b : ℤ) (n : ℕ) (c : ℤ → ℤ → Call) → formOf n ≡ some (both c) → numbered t n a b ≡ step t (c a b)
-  unfolding numbered
-  number-both b n c e = rw e
-
-  -- any other number, 0 or past the list: 13, whatever the arguments
-
-  pub number-zero : (b : ℤ) → numbered t 0 a b ≡ refused 13 t
-  unfolding numbered
-  number-zero b = refl
-
-  pub number-past : (b : ℤ) (n : ℕ) → length forms < n → numbered t n a b ≡ refused 13 t
-  unfolding numbered
-  number-past b zero h = refl
-  number-past b (suc n) h = rw (no-line forms n (omega arith)) refl
+  number-unknown b n e = rw e
 
   -- an argument that the call doesn't use isn't 0: 14, before the call's own checks
   pub number-spare : (b : ℤ) (n : ℕ) (f : Form) → formOf n ≡ some f → spare f a b ≡ true → numbered t n a b ≡ refused 14 t

@@ -12,7 +12,7 @@ use Rattle.rules.specs.declared.Answer.the-variants.{Done, Refused}
 use Rattle.rules.specs.declared.Outcome.{Outcome}
 use Rattle.rules.specs.Answers.{Check, _when_, NoneHolds, refused, unless}
 use Rattle.rules.specs.Calls.{Accepted, Call, Count, Deed, Delete, Kill, MakeProcess, MakeSemaphore, Reset, Resume, Signal, Suspend, Wait, Yield, checks, deed, finish, step}
-use Rattle.rules.specs.Enter.{Form, forms, lineOf, formOf, callOf, spare, formed, numbered}
+use Rattle.rules.specs.Enter.{Form, forms, lineOf, formOf, callOf, spare, called, numbered}
 use Rattle.rules.specs.declared.Answer.{Answer}
 
 -- what is true of every refusal, and of what is done where no check holds, is true of the call
@@ -55,7 +55,7 @@ pub numbered-cases : (t : Tables) (P : Outcome → Type 0) → ((m : ℕ) → P 
 unfolding numbered
 numbered-cases t P ref n a b call = go (formOf n) refl
   where
-    go : (f : Option Form) → formOf n ≡ f → P (formed t f a b)
+    go : (f : Option Form) → formOf n ≡ f → P (called t f a b)
     go none e = ref 13
     go (some f) e = unless-cases (λ m. refused m t) P ref ((14 when spare f a b) ∷ []) (step t (callOf f a b)) (λ k. call f e)
 
@@ -126,6 +126,6 @@ pub numbered-ranged : (t : Tables) (n : ℕ) (a b : ℤ) → Ranged (numbered t 
 unfolding numbered
 numbered-ranged t n a b = go (formOf n)
   where
-    go : (f : Option Form) → Ranged (formed t f a b .answer)
+    go : (f : Option Form) → Ranged (called t f a b .answer)
     go none = (omega arith, omega arith)
     go (some f) = unless-ranged t ((14 when spare f a b) ∷ []) (step t (callOf f a b)) ((omega arith, omega arith), tt) (step-ranged t (callOf f a b))

@@ -62,13 +62,13 @@ spare (neither c) a b = not (isZero a) || not (isZero b)
 spare (first c) a b = not (isZero b)
 spare (both c) a b = false
 
-abbrev pub formed : Tables → Option Form → ℤ → ℤ → Outcome
-formed t none a b = refused 13 t
-formed t (some f) a b = unless (λ n. refused n t) ((14 when spare f a b) ∷ []) (step t (callOf f a b))
+abbrev pub called : Tables → Option Form → ℤ → ℤ → Outcome
+called t none a b = refused 13 t
+called t (some f) a b = unless (λ n. refused n t) ((14 when spare f a b) ∷ []) (step t (callOf f a b))
 
 -- a call on sound tables
 unfoldable pub numbered : Tables → ℕ → ℤ → ℤ → Outcome
-numbered t n a b = formed t (formOf n) a b
+numbered t n a b = called t (formOf n) a b
 
 -- the running process that is told of tables that aren't sound
 abbrev pub nobody : ℕ

@@ -14,7 +14,7 @@ use Rattle.tables.specs.Limits.{processLimit, semaphoreLimit}
 use Rattle.tables.specs.Readers.{process}
 use Rattle.tables.specs.Test.{nullFits, onceEach, slotFits}
 use Rattle.tables.specs.declared.Tables.{Tables}
-use Rattle.soundness.specs.Laid.{laidNow}
+use Rattle.soundness.specs.Laid.{laidClauses}
 use Rattle.soundness.proofs.StateBytes.{slot-said}
 
 module _ (bs : List ℕ) where
@@ -29,14 +29,14 @@ module _ (bs : List ℕ) where
   unfolding fromBytes
   next-process-said = refl
 
-  pub far-semaphore : semaphoreLimit ≤ getD bs nextSemaphoreAt 0 → false ≡ laidNow t
+  pub far-semaphore : semaphoreLimit ≤ getD bs nextSemaphoreAt 0 → false ≡ laidClauses t
   far-semaphore h = sym (rw (next-semaphore-said, le-ltb (getD bs nextSemaphoreAt 0) semaphoreLimit h))
 
   module _ (h1 : getD bs nextSemaphoreAt 0 < semaphoreLimit) where
     first : ltb (t .«next_semaphore») semaphoreLimit ≡ true
     first = rw next-semaphore-said (lt-ltb (getD bs nextSemaphoreAt 0) semaphoreLimit h1)
 
-    pub far-process : processLimit ≤ getD bs nextProcessAt 0 → false ≡ laidNow t
+    pub far-process : processLimit ≤ getD bs nextProcessAt 0 → false ≡ laidClauses t
     far-process h = sym (rw (first, next-process-said, le-ltb (getD bs nextProcessAt 0) processLimit h))
 
     module _ (h2 : getD bs nextProcessAt 0 < processLimit) (b : Bool) (null : b ≡ nullFits (record { state = byteState (getD bs 0 0); priority = getD bs prioritiesAt 0 })) where
@@ -46,12 +46,12 @@ module _ (bs : List ℕ) where
       third : nullFits (process t 0) ≡ b
       third = ap nullFits (slot-said bs 0 (omega arith)) ∙ sym null
 
-      pub null-wrong : b ≡ false → false ≡ laidNow t
+      pub null-wrong : b ≡ false → false ≡ laidClauses t
       null-wrong h = sym (rw (first, second, third ∙ h))
 
       module _ (h3 : b ≡ true) (d : Bool) (slots : d ≡ all processLimit (λ p. eqb p 0 || slotFits (process t p))) where
-        pub slots-wrong : d ≡ false → false ≡ laidNow t
+        pub slots-wrong : d ≡ false → false ≡ laidClauses t
         slots-wrong h = sym (rw (first, second, third ∙ h3, sym slots ∙ h))
 
-        pub row-left : d ≡ true → (e : Bool) → e ≡ onceEach (t .order) → e ≡ laidNow t
+        pub row-left : d ≡ true → (e : Bool) → e ≡ onceEach (t .order) → e ≡ laidClauses t
         row-left h e row = row ∙ sym (rw (first, second, third ∙ h3, sym slots ∙ h))

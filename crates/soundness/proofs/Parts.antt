@@ -13,14 +13,14 @@ use Rattle.lists.specs.Numbers.{all}
 use Rattle.tables.specs.Limits.{processLimit, semaphoreLimit}
 use Rattle.tables.specs.Readers.{currentOf, currents, line, priorityOf, process, queue, readyList, semaphore}
 use Rattle.tables.specs.States.{isCurrent, waitsOn}
-use Rattle.tables.specs.Test.{countsFit, nullFits, onceEach, readyFalls, semaphoreFits, shaped, slotFits, soundNow}
+use Rattle.tables.specs.Test.{semaphoresFit, nullFits, onceEach, readyFalls, semaphoreFits, shaped, slotFits, soundNow}
 use Rattle.tables.specs.declared.State.{State}
 use Rattle.tables.specs.declared.Tables.{Tables}
 use Rattle.layout.proofs.Image.{order-long, processes-long, semaphores-long}
 use Rattle.lists.proofs.Bools.{both}
 use Rattle.lists.proofs.NumberLaws.{all-ext}
 use Rattle.tables.proofs.Lines.{current-inside, current-sum, line-many}
-use Rattle.soundness.specs.Laid.{laidNow}
+use Rattle.soundness.specs.Laid.{laidClauses}
 use Rattle.soundness.specs.Tallies.{manyOf, sumOf}
 use Rattle.soundness.proofs.StateBytes.{names-all, priority-said}
 
@@ -43,17 +43,17 @@ module _ (bs : List ℕ) (wf : wellFormed bs ≡ true) where
   shaped-said = rw (processes-long bs, semaphores-long bs, order-long bs)
 
   -- of well formed bytes the test is that of how the tables are laid, and of who runs and waits
-  opened : soundNow t ≡ (laidNow t && (eqb (length (currents t)) 1 && (readyFalls t && countsFit t)))
+  opened : soundNow t ≡ (laidClauses t && (eqb (length (currents t)) 1 && (readyFalls t && semaphoresFit t)))
   unfolding soundNow
   opened =
-      rw (shaped-said, names-all bs wf, and-last (countsFit t))
+      rw (shaped-said, names-all bs wf, and-last (semaphoresFit t))
       (and-group (ltb (t .«next_semaphore») semaphoreLimit) (ltb (t .«next_process») processLimit) (nullFits (process t 0)) (all processLimit (λ p. eqb p 0 || slotFits (process t p))) (onceEach (t .order))
-      (eqb (length (currents t)) 1 && (readyFalls t && countsFit t)))
+      (eqb (length (currents t)) 1 && (readyFalls t && semaphoresFit t)))
 
-  pub unlaid : laidNow t ≡ false → soundNow t ≡ false
+  pub unlaid : laidClauses t ≡ false → soundNow t ≡ false
   unlaid h = opened ∙ rw h
 
-  module _ (laid : laidNow t ≡ true) where
+  module _ (laid : laidClauses t ≡ true) where
     row : onceEach (t .order) ≡ true
     row =
         let a = both (ltb (t .«next_semaphore») semaphoreLimit) _ laid .1 in
@@ -89,7 +89,7 @@ module _ (bs : List ℕ) (wf : wellFormed bs ≡ true) where
 
       pub counts-left : (b : Bool) → b ≡ falls (priorityOf t) (getD bs (prioritiesAt + c) 0) (readyList t) → b ≡ true
           → (ws : List ℕ) → ((s : ℕ) → s < semaphoreLimit → getD ws s 0 ≡ manyOf t (waitsOn s)) → all semaphoreLimit (λ s. semaphoreFits (semaphore t s) (getD ws s 0)) ≡ soundNow t
-      unfolding countsFit
+      unfolding semaphoresFit
       counts-left b e h ws w =
           all-ext semaphoreLimit (λ s. semaphoreFits (semaphore t s) (getD ws s 0)) (λ s. semaphoreFits (semaphore t s) (length (queue t s))) (λ s k. ap (semaphoreFits (semaphore t s)) (w s k ∙ sym (many-said (waitsOn s))))
           ∙ sym (opened ∙ rw (laid, eq-eqb (length (currents t)) 1 one, sym falls-said ∙ sym e ∙ h))

@@ -7,8 +7,8 @@ use Rattle.tables.specs.Limits.{processLimit, semaphoreLimit}
 use Rattle.tables.specs.Readers.{process}
 use Rattle.tables.specs.Test.{nullFits, slotFits, onceEach}
 
-abbrev pub laidNow : Tables → Bool
-laidNow t =
+abbrev pub laidClauses : Tables → Bool
+laidClauses t =
     ltb (t .«next_semaphore») semaphoreLimit
     && (ltb (t .«next_process») processLimit
     && (nullFits (process t 0)

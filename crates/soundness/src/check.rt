@@ -17,12 +17,12 @@ ghost use mathlib.Core.Bool.{true};
 ghost use Rattle.tables.specs.Test.{soundNow};
 ghost use Rattle.layout.specs.Bytes.{fromBytes, wellFormed};
 ghost use Rattle.soundness.specs.Good.{good};
-ghost use Rattle.soundness.specs.Laid.{laidNow};
+ghost use Rattle.soundness.specs.Laid.{laidClauses};
 
 // How the tables are laid: the cursors, the slots, the row.
 fn laid(bytes: &[u8]) -> bool
     requires { ⌜ wellFormed (now bytes) ≡ true ⌝ }
-    ensures { λ r. ⌜ r ≡ laidNow (fromBytes (now (bytes .entry))) ⌝ }
+    ensures { λ r. ⌜ r ≡ laidClauses (fromBytes (now (bytes .entry))) ⌝ }
 {
     if bytes[NEXT_SEMAPHORE] >= Tables::SEMAPHORES as u8 {
         return false;
@@ -41,7 +41,7 @@ fn laid(bytes: &[u8]) -> bool
 
 // Of laid tables: who runs, and the queues.
 fn runs(bytes: &[u8]) -> bool
-    requires { ⌜ (wellFormed (now bytes) ≡ true) × (laidNow (fromBytes (now bytes)) ≡ true) ⌝ }
+    requires { ⌜ (wellFormed (now bytes) ≡ true) × (laidClauses (fromBytes (now bytes)) ≡ true) ⌝ }
     ensures { λ r. ⌜ r ≡ soundNow (fromBytes (now (bytes .entry))) ⌝ }
 {
     if currents(bytes) != 1 {

@@ -9,7 +9,7 @@ use Rattle.tables.specs.Limits.{semaphoreLimit}
 use Rattle.tables.specs.Readers.{freeSemaphore, semaphore, line}
 use Rattle.tables.specs.Boot.{boot}
 use Rattle.tables.specs.Sound.{Sound}
-use Rattle.tables.specs.Test.{onceEach, countsFit, readyFalls, soundNow}
+use Rattle.tables.specs.Test.{onceEach, semaphoresFit, readyFalls, soundNow}
 use Rattle.tables.proofs.TestLaws.{checked-sound}
 
 getD-replicate {ℓ} : {A : Type ℓ} (n i : ℕ) (d : A) → getD (replicate n d) i d ≡ d
@@ -22,7 +22,7 @@ unfolding boot
 entry-boot s = getD-replicate semaphoreLimit s freeSemaphore
 
 passes-boot : soundNow boot ≡ true
-unfolding soundNow boot onceEach countsFit readyFalls line filter times falls firstOr listed all
+unfolding soundNow boot onceEach semaphoresFit readyFalls line filter times falls firstOr listed all
 passes-boot = refl
 
 pub sound-boot : Sound boot

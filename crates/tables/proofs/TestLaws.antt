@@ -24,7 +24,7 @@ use Rattle.tables.specs.Limits.{processLimit, semaphoreLimit}
 use Rattle.tables.specs.States.{isCurrent, isReady, awaits, isThe, waitsOn}
 use Rattle.tables.specs.Readers.{process, stateOf, priorityOf, semaphore, isUsed, countOf, readyList, queue, currents, currentOf}
 use Rattle.tables.specs.Sound.{SlotSound, Laid, Counted, Queued, Sound}
-use Rattle.tables.specs.Test.{shaped, onceEach, isSemaphore, namesSemaphore, nullFits, slotFits, countFits, semaphoreFits, countsFit, readyFalls, clauses, allOf, soundNow}
+use Rattle.tables.specs.Test.{shaped, onceEach, isSemaphore, namesSemaphore, nullFits, slotFits, countFits, semaphoreFits, semaphoresFit, readyFalls, clauses, allOf, soundNow}
 use Rattle.tables.proofs.States.{is-ready, awaits-some}
 use Rattle.tables.proofs.LineLaws.{line-passes, line-empty, slot-past, entry-past, in-line-live}
 use Rattle.tables.proofs.Sentences.{waiter-below}
@@ -41,7 +41,7 @@ pub record Passed (t : Tables) : Type 0 where
   pub row : onceEach (t .order) ≡ true
   pub one : eqb (length (currents t)) 1 ≡ true
   pub ready : readyFalls t ≡ true
-  pub counts : countsFit t ≡ true
+  pub counts : semaphoresFit t ≡ true
 
 abbrev AllTrue : List Bool → Type 0
 AllTrue [] = Unit
@@ -164,7 +164,7 @@ module _ (t : Tables) (P : Passed t) where
       (λ h. ap (λ (r : Process). waitsOn s (r .state)) (slot-past t p (omega arith))))
 
   entry-fits : (s : ℕ) → s < semaphoreLimit → countFits (isUsed t s) (countOf t s) (length (queue t s)) ≡ true
-  unfolding countsFit
+  unfolding semaphoresFit
   entry-fits s h = all-at (λ s. semaphoreFits (semaphore t s) (length (queue t s))) semaphoreLimit s (P .counts) h
 
   queued : Queued t
@@ -206,7 +206,7 @@ module _ {t : Tables} (S : Sound t) where
       go (some s) e = lt-ltb s semaphoreLimit (waiter-below S p s (awaits-some (stateOf t p) s e))
 
   sound-passed : Passed t
-  unfolding readyFalls countsFit
+  unfolding readyFalls semaphoresFit
   sound-passed =
       record {
         shape = and-in (eq-eqb (length (t .processes)) processLimit (S .laid .slots)) (and-in (eq-eqb (length (t .semaphores)) semaphoreLimit (S .laid .entries)) (eq-eqb (length (t .order)) processLimit (S .laid .places)));

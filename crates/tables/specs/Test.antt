@@ -50,8 +50,8 @@ countFits false (negsuc c) n = false
 abbrev pub semaphoreFits : Semaphore → ℕ → Bool
 semaphoreFits x n = countFits (x .used) (x .count) n
 
-unfoldable pub countsFit : Tables → Bool
-countsFit t = all semaphoreLimit (λ s. semaphoreFits (semaphore t s) (length (queue t s)))
+unfoldable pub semaphoresFit : Tables → Bool
+semaphoresFit t = all semaphoreLimit (λ s. semaphoreFits (semaphore t s) (length (queue t s)))
 
 -- the ready list falls, from the priority of the current process on
 unfoldable pub readyFalls : Tables → Bool
@@ -68,7 +68,7 @@ clauses t =
     ∷ onceEach (t .order)
     ∷ eqb (length (currents t)) 1
     ∷ readyFalls t
-    ∷ countsFit t
+    ∷ semaphoresFit t
     ∷ []
 
 abbrev pub allOf : List Bool → Bool

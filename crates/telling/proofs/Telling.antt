@@ -10,15 +10,13 @@ use lib.IntN.{ℤ, pos, sucℤ}
 use lib.ListN.{length}
 use borrow.Author.Tests.{ltb-true, ltb-false, eqb-true}
 use Rattle.lists.specs.Lists.{if_then_else_, putBefore, times, isEmpty, first, Falling}
-use Rattle.lists.specs.Numbers.{FirstFrom}
 use Rattle.lists.proofs.FallingLaws.{atMost-member}
-use Rattle.lists.proofs.RoundLaws.{found}
 use Rattle.tables.specs.declared.State.{State}
 use Rattle.tables.specs.declared.State.the-variants.{Free, Current}
 use Rattle.tables.specs.declared.Process.{Process}
 use Rattle.tables.specs.declared.Tables.{Tables}
 use Rattle.tables.specs.Limits.{processLimit}
-use Rattle.tables.specs.States.{isFree, isCurrent, isReady, awaits}
+use Rattle.tables.specs.States.{isCurrent, isReady, awaits}
 use Rattle.tables.specs.Readers.{freeSlot, process, stateOf, priorityOf, countOf, currents}
 use Rattle.tables.specs.Setters.{withProcess, withCount}
 use Rattle.tables.specs.Sound.{Sound}
@@ -32,6 +30,7 @@ use Rattle.telling.specs.Telling.{seen, Seats, seats, behind, PutBehind,
 use Rattle.rules.proofs.Resched.{Settled, Prepared}
 use Rattle.rules.proofs.Effects.{Shows, Effect, settled-shows}
 use Rattle.rules.proofs.Slots.{suspend-prepared, free-prepared}
+use Rattle.rules.proofs.Found.{slot-found}
 use Rattle.rules.proofs.Refusals.{step-done}
 use Rattle.rules.proofs.Changes.{Loses, below-limit, not-null, kill-loses}
 use Rattle.telling.proofs.Seats.{seats-set}
@@ -69,31 +68,28 @@ module _ {t : Tables} (S : Sound t) where
   seen-here w = rw (w .used, w .count, w .waiters)
 
   -- a call that changes how one semaphore is seen
-  pub changed : {o : Outcome} {v : ℤ} {s : ℕ} {u : Bool} {c : ℤ} {q : List ℕ} {y : Seats} (x : Call) → step t x ≡ o → o .answer ≡ Done v → Effect t (o .tables) s u c q → seats (o .tables) ≡ y
+  pub tell-changes : {o : Outcome} {v : ℤ} {s : ℕ} {u : Bool} {c : ℤ} {q : List ℕ} {y : Seats} (x : Call) → step t x ≡ o → o .answer ≡ Done v → Effect t (o .tables) s u c q → seats (o .tables) ≡ y
       → Changes t (step t x) v s (record { used = u; count = c; waiters = q }) y
-  changed x e d E h = rw e (record { value = d; here = seen-here (E .here); elsewhere = λ r k. seen-here (E .elsewhere r k); seated = h })
+  tell-changes x e d E h = rw e (record { value = d; here = seen-here (E .here); elsewhere = λ r k. seen-here (E .elsewhere r k); seated = h })
 
   -- one that changes none
-  pub kept : {o : Outcome} {v : ℤ} {y : Seats} (x : Call) → step t x ≡ o → o .answer ≡ Done v → Settled t (o .tables) → seats (o .tables) ≡ y → Keeps t (step t x) v y
-  kept x e d g h = rw e (record { value = d; everywhere = λ r. seen-here (settled-shows g r); seated = h })
+  pub tell-keeps : {o : Outcome} {v : ℤ} {y : Seats} (x : Call) → step t x ≡ o → o .answer ≡ Done v → Settled t (o .tables) → seats (o .tables) ≡ y → Keeps t (step t x) v y
+  tell-keeps x e d g h = rw e (record { value = d; everywhere = λ r. seen-here (settled-shows g r); seated = h })
 
   pub only-current : (p : ℕ) → stateOf t p ≡ Current → currents t ≡ p ∷ []
   only-current p h = current-only (S .running) ∙ ap (λ (c : ℕ). c ∷ []) (current-unique S p (ap isCurrent h))
 
   -- the number answered by a make is the one that is found
 
-  pub made : (a : ℤ) (s : ℕ) → Accepted t (MakeSemaphore a) → step t (MakeSemaphore a) .answer ≡ Done (pos s) → first (freeSemaphores t) ≡ s
-  made a s k e = let d : Done (pos (first (freeSemaphores t))) ≡ Done (pos s) = sym (ap (λ (o : Outcome). o .answer) (step-done t (MakeSemaphore a) k)) ∙ e in cc
+  pub made-semaphore : (a : ℤ) (s : ℕ) → Accepted t (MakeSemaphore a) → step t (MakeSemaphore a) .answer ≡ Done (pos s) → first (freeSemaphores t) ≡ s
+  made-semaphore a s k e = let d : Done (pos (first (freeSemaphores t))) ≡ Done (pos s) = sym (ap (λ (o : Outcome). o .answer) (step-done t (MakeSemaphore a) k)) ∙ e in cc
 
-  pub formed : (a : ℤ) (p : ℕ) → Accepted t (MakeProcess a) → step t (MakeProcess a) .answer ≡ Done (pos p) → first (freeSlots t) ≡ p
-  formed a p k e = let d : Done (pos (first (freeSlots t))) ≡ Done (pos p) = sym (ap (λ (o : Outcome). o .answer) (step-done t (MakeProcess a) k)) ∙ e in cc
-
-  pub slot-found : isEmpty (freeSlots t) ≡ false → FirstFrom (λ p. isFree (stateOf t p)) processLimit (t .«next_process») (first (freeSlots t))
-  slot-found h = found (λ p. isFree (stateOf t p)) processLimit (t .«next_process») (S .laid .cursors .1) h
+  pub made-process : (a : ℤ) (p : ℕ) → Accepted t (MakeProcess a) → step t (MakeProcess a) .answer ≡ Done (pos p) → first (freeSlots t) ≡ p
+  made-process a p k e = let d : Done (pos (first (freeSlots t))) ≡ Done (pos p) = sym (ap (λ (o : Outcome). o .answer) (step-done t (MakeProcess a) k)) ∙ e in cc
 
   pub slot-seats : (y : Process) → isReady (y .state) ≡ false → isCurrent (y .state) ≡ false → isEmpty (freeSlots t) ≡ false → seats (withProcess t (first (freeSlots t)) y) ≡ seats t
   slot-seats y hr hc h =
-      let f = slot-found h in
+      let f = slot-found S h in
       let p : ℕ = first (freeSlots t) in
       let e : stateOf t p ≡ Free = is-free (stateOf t p) (f .passes) in
       seats-set t p y (live-slot (S .laid) p (f .below)) hr hc ∙ rw (line-absent t p isReady (ap isReady e), line-absent t p isCurrent (ap isCurrent e))

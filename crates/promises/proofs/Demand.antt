@@ -4,11 +4,11 @@ use native.Mathlib.Omega.{arith}
 use mathlib.Core.Bool.{Bool, false, true, true≢false}
 use mathlib.Core.List.{List, [], _∷_}
 use mathlib.Core.Logic.{_≢_}
-use mathlib.Core.Option.{Option, none, some}
+use mathlib.Core.Option.{Option, none, some, Option·none-ne-some, Option·some-injective}
 use mathlib.Core.Path.{_∙_, _≡_, ap, refl, subst, sym}
 use lib.IntN.{ℤ}
 use lib.ListN.{length}
-use borrow.Author.Tests.{eq-eqb, ne-eqb}
+use borrow.Author.Tests.{eq-eqb}
 use Rattle.lists.specs.Lists.{if_then_else_, place, times}
 use Rattle.tables.specs.declared.State.{State}
 use Rattle.tables.specs.declared.State.the-variants.{Current, Free, Ready, Suspended, Waiting}
@@ -18,7 +18,8 @@ use Rattle.tables.specs.States.{isCurrent, isFree, isReady, isSuspended, waitsO
 use Rattle.tables.specs.Readers.{countOf, queue, stateOf}
 use Rattle.tables.specs.Boot.{boot}
 use Rattle.tables.specs.Sound.{Sound}
-use Rattle.tables.proofs.States.{is-free}
+use Rattle.lists.proofs.Bools.{split}
+use Rattle.tables.proofs.States.{is-free, is-current, is-ready, is-suspended, waits-on}
 use Rattle.tables.proofs.LineLaws.{in-line-live}
 use Rattle.tables.proofs.Sentences.{few-wait, sentences}
 use Rattle.tables.proofs.BootLaws.{entry-boot, sound-boot}
@@ -26,7 +27,7 @@ use Rattle.rules.proofs.Kept.{sound-numbered}
 use Rattle.promises.specs.Record.{Account, Entry, Request, account, after, recordOf, stillBlocked}
 use Rattle.promises.specs.Demand.{Demand3, OnePlace, Place, Start, queueOf, ready, running, suspended, there}
 use Rattle.promises.proofs.Accounts.{Agrees}
-use Rattle.promises.proofs.Demand3.{Agree, numbered-agree}
+use Rattle.promises.proofs.CallAccounts.{Agree, numbered-agree}
 
 -- what every call keeps
 record Invariant (t : Tables) (es : List Entry) : Type 0 where
@@ -70,6 +71,21 @@ tests ready = isReady
 tests suspended = isSuspended
 tests (queueOf s) = waitsOn s
 
+-- the place of a state, none of a free slot
+abbrev placeOf : State → Option Place
+placeOf Free = none
+placeOf Current = some running
+placeOf Ready = some ready
+placeOf Suspended = some suspended
+placeOf (Waiting s) = some (queueOf s)
+
+-- a state passes the test of its own place alone
+passes-place : (x : Place) (st : State) → tests x st ≡ true → placeOf st ≡ some x
+passes-place running st h = ap placeOf (is-current st h)
+passes-place ready st h = ap placeOf (is-ready st h)
+passes-place suspended st h = ap placeOf (is-suspended st h)
+passes-place (queueOf s) st h = ap placeOf (waits-on st s h)
+
 module _ {t : Tables} (S : Sound t) where
   there-times : (p : ℕ) (x : Place) → times p (there t x) ≡ (if tests x (stateOf t p) then 1 else 0)
   there-times p running = in-line-live (S .laid) p isCurrent refl
@@ -77,48 +93,22 @@ module _ {t : Tables} (S : Sound t) where
   there-times p suspended = in-line-live (S .laid) p isSuspended refl
   there-times p (queueOf s) = in-line-live (S .laid) p (waitsOn s) refl
 
-  at-place : (p : ℕ) (st : State) → stateOf t p ≡ st → (x : Place) → tests x st ≡ true → ((y : Place) → y ≢ x → tests y st ≡ false) → OnePlace t p
-  at-place p st e x h k = record { place = x; once = there-times p x ∙ rw (e, h); nowhereElse = λ y n. there-times p y ∙ rw (e, k y n) }
+  -- where its state doesn't say, it doesn't stand
+  not-there : (p : ℕ) (x : Place) → placeOf (stateOf t p) ≢ some x → times p (there t x) ≡ 0
+  not-there p x n = there-times p x ∙ split (tests x (stateOf t p)) (λ h. absurd (n (passes-place x (stateOf t p) h))) (λ h. rw h)
+
+  at-place : (p : ℕ) (x : Place) → tests x (stateOf t p) ≡ true → OnePlace t p
+  at-place p x h = record { place = x; once = there-times p x ∙ rw h; nowhereElse = λ y n. not-there p y (λ d. n (Option·some-injective y x (sym d ∙ passes-place x (stateOf t p) h))) }
 
   placed : (p : ℕ) (st : State) → stateOf t p ≡ st → isFree st ≡ false → OnePlace t p
   placed p Free e h = absurd (true≢false h)
-  placed p Current e h = at-place p Current e running refl other
-    where
-      other : (y : Place) → y ≢ running → tests y Current ≡ false
-      other running n = absurd (n refl)
-      other ready n = refl
-      other suspended n = refl
-      other (queueOf s) n = refl
-  placed p Ready e h = at-place p Ready e ready refl other
-    where
-      other : (y : Place) → y ≢ ready → tests y Ready ≡ false
-      other running n = refl
-      other ready n = absurd (n refl)
-      other suspended n = refl
-      other (queueOf s) n = refl
-  placed p Suspended e h = at-place p Suspended e suspended refl other
-    where
-      other : (y : Place) → y ≢ suspended → tests y Suspended ≡ false
-      other running n = refl
-      other ready n = refl
-      other suspended n = absurd (n refl)
-      other (queueOf s) n = refl
-  placed p (Waiting s) e h = at-place p (Waiting s) e (queueOf s) (eq-eqb s s refl) other
-    where
-      other : (y : Place) → y ≢ queueOf s → tests y (Waiting s) ≡ false
-      other running n = refl
-      other ready n = refl
-      other suspended n = refl
-      other (queueOf r) n = ne-eqb s r (λ d. n (ap queueOf (sym d)))
+  placed p Current e h = at-place p running (ap isCurrent e)
+  placed p Ready e h = at-place p ready (ap isReady e)
+  placed p Suspended e h = at-place p suspended (ap isSuspended e)
+  placed p (Waiting s) e h = at-place p (queueOf s) (ap (waitsOn s) e ∙ eq-eqb s s refl)
 
   nowhere : (p : ℕ) → isFree (stateOf t p) ≡ true → (x : Place) → times p (there t x) ≡ 0
-  nowhere p h x = there-times p x ∙ rw (is-free (stateOf t p) h) (go x)
-    where
-      go : (x : Place) → _≡_ {A = ℕ} (if tests x Free then 1 else 0) 0
-      go running = refl
-      go ready = refl
-      go suspended = refl
-      go (queueOf s) = refl
+  nowhere p h x = not-there p x (λ d. Option·none-ne-some x (sym (ap placeOf (is-free (stateOf t p) h)) ∙ d))
 
   different : (s p : ℕ) → times p (queue t s) ≤ 1
   different s p = rw (there-times p (queueOf s)) (go (waitsOn s (stateOf t p)))

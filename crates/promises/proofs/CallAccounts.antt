@@ -18,7 +18,7 @@ use Rattle.tables.proofs.LineLaws.{in-line-live}
 use Rattle.tables.proofs.Sentences.{waiter-used, sentences}
 use Rattle.rules.specs.Answers.{_when_, refused}
 use Rattle.rules.specs.Calls.{Call, Wait, Signal, MakeSemaphore, Delete, Reset, MakeProcess, Resume, Suspend, Kill, Yield, Count, deed, finish, step}
-use Rattle.rules.specs.Enter.{Form, formOf, callOf, spare, formed, numbered}
+use Rattle.rules.specs.Enter.{Form, formOf, callOf, spare, called, numbered}
 use Rattle.rules.proofs.Resched.{Settled}
 use Rattle.rules.proofs.Effects.{Shows, Effect, settled-shows}
 use Rattle.rules.proofs.Refusals.{unless-cases, step-cases}
@@ -114,7 +114,7 @@ module _ {t : Tables} (S : Sound t) where
       b : ℤ
       b = q .b
 
-      go : (f : Option Form) → Agree (formed t f a b .tables) r (entered r (record { caller = currentOf t; request = q; answer = formed t f a b .answer }) f old)
+      go : (f : Option Form) → Agree (called t f a b .tables) r (entered r (record { caller = currentOf t; request = q; answer = called t f a b .answer }) f old)
       go none = h
       go (some f) =
           unless-cases (λ m. refused m t) (λ o. Agree (o .tables) r (answered r (currentOf t) (callOf f a b) (o .answer) old)) (λ m. h) ((14 when spare f a b) ∷ []) (step t (callOf f a b))
