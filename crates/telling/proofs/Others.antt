@@ -1,7 +1,7 @@
 -- Who is free or suspended, and isn't spoken of, keeps its slot. Assumes nothing.
 use Prim.Native.Nat.{ℕ, suc, _<_}
 use native.Mathlib.Omega.{arith}
-use mathlib.Core.Bool.{Bool, true, false, _||_, true≢false, false≢true}
+use mathlib.Core.Bool.{Bool, true, false, _||_, true≢false}
 use mathlib.Core.List.{List, [], _∷_}
 use mathlib.Core.Logic.{_≢_}
 use mathlib.Core.Path.{_≡_, refl, sym, ap, _∙_}
@@ -11,7 +11,6 @@ use lib.IntN.{ℤ, pos, negsuc, sucℤ, predℤ, natAbs}
 use borrow.Author.Tests.{eqb-false}
 use Rattle.lists.specs.Lists.{if_then_else_, times, firstOr, first}
 use Rattle.tables.specs.declared.State.{State}
-use Rattle.tables.specs.declared.State.the-variants.{Free, Current, Ready, Suspended, Waiting}
 use Rattle.tables.specs.declared.Process.{Process}
 use Rattle.tables.specs.declared.Tables.{Tables}
 use Rattle.tables.specs.Limits.{processLimit}
@@ -19,6 +18,8 @@ use Rattle.tables.specs.States.{isFree, isCurrent, isReady, isSuspended, awaits
 use Rattle.tables.specs.Readers.{process, stateOf, priorityOf, countOf, readyList, queue, currents, currentOf}
 use Rattle.tables.specs.Setters.{withProcess, withCount}
 use Rattle.tables.specs.Sound.{Counted, Sound}
+use Rattle.lists.proofs.Bools.{split}
+use Rattle.tables.proofs.States.{is-free, is-suspended}
 use Rattle.tables.proofs.LineLaws.{at-same, at-other, line-first, in-line-live}
 use Rattle.tables.proofs.Sentences.{current-is}
 use Rattle.rules.specs.Schedule.{joining, makeReady, makeAllReady, makeWait, startFirst, switch, reschedule}
@@ -82,11 +83,7 @@ abbrev Quiet : Tables → ℕ → Type 0
 Quiet t x = (isFree (stateOf t x) || isSuspended (stateOf t x)) ≡ true
 
 quiet-not : (st : State) → (isFree st || isSuspended st) ≡ true → (isReady st ≡ false) × (isCurrent st ≡ false) × ((s : ℕ) → waitsOn s st ≡ false)
-quiet-not Free h = (refl, refl, λ s. refl)
-quiet-not Current h = absurd (false≢true h)
-quiet-not Ready h = absurd (false≢true h)
-quiet-not Suspended h = (refl, refl, λ s. refl)
-quiet-not (Waiting r) h = absurd (false≢true h)
+quiet-not st h = split (isFree st) (λ e. rw (is-free st e) (refl, refl, λ s. refl)) (λ e. rw (is-suspended st (sym (ap (λ (b : Bool). b || isSuspended st) e) ∙ h)) (refl, refl, λ s. refl))
 
 module _ {t : Tables} (S : Sound t) (x : ℕ) (q : Quiet t x) where
   not-waiting : (s : ℕ) → times x (queue t s) ≡ 0
