@@ -14,8 +14,7 @@ use Rattle.lists.specs.Numbers.{roundFrom}
 use Rattle.rules.specs.Calls.{MakeProcess, MakeSemaphore, below0, onePast, outside, step}
 use Rattle.rules.specs.declared.Answer.the-variants.{Done, Refused}
 use Rattle.tables.specs.Limits.{priorityLimit, processLimit, semaphoreLimit}
-use Rattle.tables.specs.Setters.{withNextProcess, withNextSemaphore, withProcess, withSemaphore}
-use Rattle.tables.specs.declared.State.the-variants.{Suspended}
+use Rattle.tables.specs.Setters.{newSlot, withNextProcess, withNextSemaphore, withProcess, withSemaphore}
 use Rattle.tables.specs.declared.Tables.{Tables}
 use Rattle.kernel.specs.Arguments.{indexBelow}
 use Rattle.kernel.specs.Meets.{Meets}
@@ -68,11 +67,11 @@ module _ (n : ℕ) (live : n ≡ 0 → ⊥) (low : n ≤ priorityLimit) (a : Lis
   unfolding step isEmpty
   make-8 e = refuses (λ t. step t (MakeProcess (pos n))) 8 a (λ t st S. rw (le-ltb n 1 (omega arith), le-ltb priorityLimit n low, first-none (first-slot a k r t st S cursor is) e) refl)
 
-  module _ (b d : List ℕ) (put : r < processLimit → Turns (λ t. withProcess t r (record { state = Suspended; priority = n })) a b) (move : Turns (λ t. withNextProcess t (onePast processLimit r)) b d) where
+  module _ (b d : List ℕ) (put : r < processLimit → Turns (λ t. withProcess t r (newSlot n)) a b) (move : Turns (λ t. withNextProcess t (onePast processLimit r)) b d) where
     pub make-process-done : (v : ℤ) → v ≡ pos r → (r ≡ processLimit → ⊥) → Meets (λ t. step t (MakeProcess (pos n))) a d (Done v)
     unfolding step isEmpty firstOr Turns
     make-process-done v e m =
         does (λ t. step t (MakeProcess (pos n))) v a d (λ t st S.
         let w = first-some (first-slot a k r t st S cursor is) m in
-        let u : Tables = withProcess t r (record { state = Suspended; priority = n }) in
+        let u : Tables = withProcess t r (newSlot n) in
         (withNextProcess u (onePast processLimit r), rw (le-ltb n 1 (omega arith), le-ltb priorityLimit n low, w .2, e) refl, move u (put (w .0) t st)))

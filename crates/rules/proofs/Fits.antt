@@ -112,7 +112,7 @@ module _ {t : Tables} (S : Sound t) (F : CountsFit t) where
       step-cases t (λ o. CountsFit (o .tables) × SFits w32 (valueOf (o .answer))) refused-fit c
       (λ k. (change-fits (changeOf t c) (finish (deed t c) .tables) f (call-changes S c k), value-fits c k))
 
-  -- of a form's call: it sets one of the arguments, or nothing
+  -- of each line of the list: the third sets its first argument as a count, the fifth its second, the others none
   abbrev SetsFit : Form → Type 0
   SetsFit f = (a b : ℤ) → SFits w32 a → SFits w32 b → SFits w32 (setsCount (changeOf t (callOf f a b)))
 

@@ -1,25 +1,32 @@
 -- When a slot is sound: by the test, and as it is written anew. Assumes nothing.
 use Prim.Native.Nat.{ℕ, _≤_}
 use native.Mathlib.Omega.{arith}
-use mathlib.Core.Bool.{true, false, true≢false}
+use mathlib.Core.Bool.{true, false, _||_, true≢false}
 use mathlib.Core.Logic.{_≢_}
 use mathlib.Core.Path.{_≡_, refl, sym, _∙_}
-use lib.Dec.{ltb, leb}
+use lib.Dec.{eqb, ltb, leb}
 use borrow.Author.Tests.{eq-eqb, lt-ltb, le-leb, ltb-true, eqb-true, leb-true}
 use Rattle.lists.proofs.Bools.{split, either, both, and-in}
 use Rattle.tables.specs.declared.State.{State}
 use Rattle.tables.specs.declared.Process.{Process}
 use Rattle.tables.specs.Limits.{priorityLimit}
-use Rattle.tables.specs.States.{isFree}
+use Rattle.tables.specs.States.{isFree, isCurrent, isReady}
 use Rattle.tables.specs.Readers.{freeSlot}
 use Rattle.tables.specs.Setters.{inState, newSlot}
 use Rattle.tables.specs.Sound.{SlotSound}
-use Rattle.tables.specs.Test.{slotFits}
+use Rattle.tables.specs.Test.{nullFits, slotFits}
 
 -- The test
 
-pub null-sound : (x : Process) → x .priority ≡ 0 → SlotSound 0 x
-null-sound x h = record { idle = λ e. h; free = λ e. h; live = λ n e. absurd (n refl) }
+-- the null process is current or ready, and its slot is sound
+pub null-sound : (x : Process) → nullFits x ≡ true → ((isCurrent (x .state) || isReady (x .state)) ≡ true) × SlotSound 0 x
+null-sound x h =
+    let w = both (isCurrent (x .state) || isReady (x .state)) (eqb (x .priority) 0) h in
+    let z : x .priority ≡ 0 = eqb-true (x .priority) 0 (w .1) in
+    (w .0, record { idle = λ e. z; free = λ e. z; live = λ n e. absurd (n refl) })
+
+pub sound-null : (x : Process) → (isCurrent (x .state) || isReady (x .state)) ≡ true → SlotSound 0 x → nullFits x ≡ true
+sound-null x h s = and-in h (eq-eqb (x .priority) 0 (s .idle refl))
 
 pub fits-sound : (p : ℕ) (x : Process) → p ≢ 0 → slotFits x ≡ true → SlotSound p x
 fits-sound p x n h =

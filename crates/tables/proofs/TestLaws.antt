@@ -21,14 +21,14 @@ use Rattle.tables.specs.declared.Process.{Process}
 use Rattle.tables.specs.declared.Semaphore.{Semaphore}
 use Rattle.tables.specs.declared.Tables.{Tables}
 use Rattle.tables.specs.Limits.{processLimit, semaphoreLimit}
-use Rattle.tables.specs.States.{isCurrent, isReady, awaits, isThe, waitsOn}
+use Rattle.tables.specs.States.{isReady, awaits, isThe, waitsOn}
 use Rattle.tables.specs.Readers.{process, stateOf, priorityOf, semaphore, isUsed, countOf, readyList, queue, currents, currentOf}
 use Rattle.tables.specs.Sound.{SlotSound, Laid, Counted, Queued, Sound}
 use Rattle.tables.specs.Test.{shaped, onceEach, isSemaphore, namesSemaphore, nullFits, slotFits, countFits, semaphoreFits, semaphoresFit, readyFalls, clauses, allOf, soundNow}
 use Rattle.tables.proofs.States.{is-ready, awaits-some}
 use Rattle.tables.proofs.LineLaws.{line-passes, line-empty, slot-past, entry-past, in-line-live}
 use Rattle.tables.proofs.Sentences.{waiter-below}
-use Rattle.tables.proofs.SlotLaws.{null-sound, fits-sound, sound-fits, free-sound}
+use Rattle.tables.proofs.SlotLaws.{null-sound, sound-null, fits-sound, sound-fits, free-sound}
 
 -- the clauses of the test, by name
 pub record Passed (t : Tables) : Type 0 where
@@ -125,9 +125,6 @@ module _ (t : Tables) (P : Passed t) where
       let b = both (eqb (length (t .semaphores)) semaphoreLimit) (eqb (length (t .order)) processLimit) (a .1) in
       (eqb-true (length (t .processes)) processLimit (a .0), (eqb-true (length (t .semaphores)) semaphoreLimit (b .0), eqb-true (length (t .order)) processLimit (b .1)))
 
-  null-fits : ((isCurrent (stateOf t 0) || isReady (stateOf t 0)) ≡ true) × (eqb (priorityOf t 0) 0 ≡ true)
-  null-fits = both (isCurrent (stateOf t 0) || isReady (stateOf t 0)) (eqb (priorityOf t 0) 0) (P .null)
-
   falls-well : AtMost (priorityOf t) (priorityOf t (currentOf t)) (readyList t) × Falling (priorityOf t) (readyList t)
   unfolding readyFalls
   falls-well = falls-both (priorityOf t) (priorityOf t (currentOf t)) (readyList t) (P .ready)
@@ -138,7 +135,7 @@ module _ (t : Tables) (P : Passed t) where
   slot-sound : (p : ℕ) → SlotSound p (process t p)
   slot-sound p =
       let n = lengths .0 in
-      either p 0 (λ d. rw d (null-sound (process t 0) (eqb-true (priorityOf t 0) 0 (null-fits .1))))
+      either p 0 (λ d. rw d (null-sound (process t 0) (P .null) .1))
       (λ d. below? p processLimit
       (λ k. fits-sound p (process t p) d (slot-fits p k d))
       (λ k. rw (slot-past t p (omega arith)) (free-sound p)))
@@ -186,7 +183,7 @@ module _ (t : Tables) (P : Passed t) where
         queued = queued;
         running = record {
           one = eqb-true (length (currents t)) 1 (P .one);
-          zero = null-fits .0;
+          zero = null-sound (process t 0) (P .null) .0;
           top = λ p e. atMost-member (priorityOf t) (priorityOf t (currentOf t)) (readyList t) p (falls-well .0)
               (let n : times p (readyList t) ≡ 1 = in-line-live laid p isReady refl ∙ rw e in omega arith);
         };
@@ -213,7 +210,7 @@ module _ {t : Tables} (S : Sound t) where
         names = all-true processLimit (λ p. namesSemaphore (stateOf t p)) (λ p k. names-well p);
         semaphoreCursor = lt-ltb (t .«next_semaphore») semaphoreLimit (S .laid .cursors .0);
         processCursor = lt-ltb (t .«next_process») processLimit (S .laid .cursors .1);
-        null = and-in (S .running .zero) (eq-eqb (priorityOf t 0) 0 (S .laid .slot 0 .idle refl));
+        null = sound-null (process t 0) (S .running .zero) (S .laid .slot 0);
         slots = all-true processLimit (λ p. eqb p 0 || slotFits (process t p)) (λ p k. either p 0 (λ e. rw e) (λ e. rw (ne-eqb p 0 e) (sound-fits p (process t p) e (S .laid .slot p))));
         row = of-row (t .order) (S .laid .places) (S .laid .order);
         one = eq-eqb (length (currents t)) 1 (S .running .one);

@@ -1,5 +1,6 @@
 pub mod Fields
 pub mod Seats
+pub mod Rescheduling
 pub mod Others
 pub mod Telling
 pub mod Told

@@ -1,16 +1,12 @@
 -- What the laws of Told share: how a call's effect and its seats make what is told of it. Assumes nothing.
-use Prim.Native.Nat.{ℕ, suc, _≤_, _<_}
-use native.Mathlib.Omega.{arith}
-use mathlib.Core.Bool.{Bool, true, false}
+use Prim.Native.Nat.{ℕ, _<_}
+use mathlib.Core.Bool.{Bool, false}
 use mathlib.Core.List.{List, [], _∷_}
 use mathlib.Core.Option.{Option, none, some}
 use mathlib.Core.Path.{_≡_, refl, sym, ap, _∙_}
-use lib.Dec.{eqb, ltb}
 use lib.IntN.{ℤ, pos, sucℤ}
 use lib.ListN.{length}
-use borrow.Author.Tests.{ltb-true, ltb-false, eqb-true}
-use Rattle.lists.specs.Lists.{if_then_else_, putBefore, times, isEmpty, first, Falling}
-use Rattle.lists.proofs.FallingLaws.{atMost-member}
+use Rattle.lists.specs.Lists.{isEmpty, first}
 use Rattle.tables.specs.declared.State.{State}
 use Rattle.tables.specs.declared.State.the-variants.{Free, Current}
 use Rattle.tables.specs.declared.Process.{Process}
@@ -26,7 +22,7 @@ use Rattle.tables.proofs.Sentences.{current-only, current-unique}
 use Rattle.rules.specs.declared.Answer.the-variants.{Done}
 use Rattle.rules.specs.declared.Outcome.{Outcome}
 use Rattle.rules.specs.Calls.{Call, MakeSemaphore, MakeProcess, Suspend, Kill, outside, freeSemaphores, freeSlots, stop, uncounted, Accepted, deed, finish, step}
-use Rattle.telling.specs.Telling.{seen, Seats, seats, behind, PutBehind, Changes, Keeps}
+use Rattle.telling.specs.Telling.{seen, Seats, seats, Changes, Keeps}
 use Rattle.rules.proofs.Resched.{Settled, Prepared}
 use Rattle.rules.proofs.Effects.{Shows, Effect, settled-shows}
 use Rattle.rules.proofs.Slots.{suspend-prepared, free-prepared}
@@ -35,33 +31,6 @@ use Rattle.rules.proofs.Refusals.{step-done}
 use Rattle.rules.proofs.Changes.{Loses, below-limit, not-null, kill-loses}
 use Rattle.telling.proofs.Seats.{seats-set}
 use Rattle.telling.proofs.Others.{slot-stopped}
-
--- put so, p stands behind every entry whose rank is equal or higher, and before the others
-pub behind-put : (rank : ℕ → ℕ) (p : ℕ) (xs : List ℕ) → Falling rank xs → PutBehind rank p xs (behind rank p xs)
-unfolding putBefore times
-behind-put rank p [] f = record { front = []; back = []; was = refl; is = refl; higher = λ x h. absurd (omega arith); lower = λ x h. absurd (omega arith) }
-behind-put rank p (x ∷ xs) f = go (ltb (rank x) (rank p)) refl (behind-put rank p xs (f .1))
-  where
-    at-most : (y : ℕ) → 1 ≤ times y (x ∷ xs) → rank y ≤ rank x
-    at-most y h = atMost-member rank (rank x) (x ∷ xs) y (omega arith, f .0) h
-
-    here-or : (b : Bool) (y : ℕ) (ys : List ℕ) → eqb x y ≡ b → 1 ≤ (if b then suc (times y ys) else times y ys) → (1 ≤ times y ys → rank p ≤ rank y) → rank p ≤ rank x → rank p ≤ rank y
-    here-or true y ys e h k l = rw (eqb-true x y e) at l
-    here-or false y ys e h k l = k h
-
-    go : (b : Bool) → ltb (rank x) (rank p) ≡ b → PutBehind rank p xs (behind rank p xs) → PutBehind rank p (x ∷ xs) (if b then p ∷ x ∷ xs else x ∷ behind rank p xs)
-    go true e r =
-        let k : rank x < rank p = ltb-true (rank x) (rank p) e in
-        record { front = []; back = x ∷ xs; was = refl; is = refl; higher = λ y h. absurd (omega arith); lower = λ y h. let m : rank y ≤ rank x = at-most y h in omega arith }
-    go false e r =
-        record {
-          front = x ∷ r .front;
-          back = r .back;
-          was = ap (λ (l : List ℕ). x ∷ l) (r .was);
-          is = ap (λ (l : List ℕ). x ∷ l) (r .is);
-          higher = λ y h. here-or (eqb x y) y (r .front) refl h (r .higher y) (ltb-false (rank x) (rank p) e);
-          lower = r .lower;
-        }
 
 module _ {t : Tables} (S : Sound t) where
   seen-here : {t′ : Tables} {s : ℕ} {u : Bool} {c : ℤ} {q : List ℕ} → Shows t′ s u c q → seen t′ s ≡ record { used = u; count = c; waiters = q }

@@ -1,14 +1,12 @@
 -- Each call of the paper's table, told of sound tables in the paper's words (specs/Telling). A reader needs the statements;
 -- the proofs cite the other files. A number below 0 is refused, so what is done is told of numbers from 0 up. Assumes nothing.
-use Prim.Native.Nat.{ℕ, suc, _≤_, _<_}
-use native.Mathlib.Omega.{arith}
+use Prim.Native.Nat.{ℕ, suc}
 use mathlib.Core.Bool.{true, false, not, _||_}
 use mathlib.Core.List.{List, [], _∷_, _++_}
 use mathlib.Core.Path.{_≡_, refl, ap, _∙_}
 use lib.Dec.{eqb}
 use lib.IntN.{ℤ, pos, negsuc, sucℤ, predℤ}
 use lib.ListN.{drop}
-use borrow.Author.Tests.{lt-ltb, le-ltb}
 use Rattle.lists.specs.Lists.{if_then_else_, without, first}
 use Rattle.lists.specs.Numbers.{FirstFrom}
 use Rattle.lists.proofs.Bools.{not-false}
@@ -18,24 +16,23 @@ use Rattle.tables.specs.Limits.{processLimit, semaphoreLimit}
 use Rattle.tables.specs.States.{isFree, isCurrent, isReady, isSuspended, awaits}
 use Rattle.tables.specs.Readers.{freeSlot, freeSemaphore, process, stateOf, priorityOf, isUsed, countOf, line, readyList, queue, currents, currentOf}
 use Rattle.tables.specs.Setters.{inState, newSlot, withCount}
-use Rattle.tables.specs.Sound.{Laid, Sound}
+use Rattle.tables.specs.Sound.{Sound}
 use Rattle.tables.proofs.States.{is-suspended}
 use Rattle.tables.proofs.LineLaws.{at-same, line-absent, live-slot}
 use Rattle.rules.specs.declared.Answer.the-variants.{Done, Refused}
 use Rattle.rules.specs.declared.Outcome.{Outcome}
-use Rattle.rules.specs.Schedule.{makeReady, switch, reschedule}
 use Rattle.rules.specs.Answers.{valueOf, done, refused, Check, _when_, NoneHolds}
 use Rattle.rules.specs.Calls.{Call, Wait, Signal, MakeSemaphore, Delete, Reset, MakeProcess, Resume, Suspend, Kill, Yield, Count, below0, freeSemaphores, freeSlots, checks, Accepted, step}
-use Rattle.telling.specs.Telling.{MakesNothing, Spares, PassesBy, inUse, notInUse, seats, seated, behind, PutBehind, headRuns, reseat, released, Changes, Keeps}
+use Rattle.telling.specs.Telling.{MakesNothing, Spares, PassesBy, inUse, notInUse, seats, seated, behind, headRuns, reseat, released, Changes, Keeps}
 use Rattle.rules.proofs.WaitSignal.{blocks-not-null}
 use Rattle.rules.proofs.Slots.{kill-prepared}
 use Rattle.rules.proofs.Found.{slot-found, semaphore-found}
 use Rattle.rules.proofs.Refusals.{step-done, step-refused, step-first}
 use Rattle.rules.proofs.Changes.{not-null, used, call-changes}
-use Rattle.telling.proofs.Seats.{ready-behind, seats-entry, seats-cursors, seats-reschedule, reseat-nobody, seats-blocked, seats-woken, seats-resumed, seats-yielded, seats-stopped-current, seats-stopped-other, seats-released}
+use Rattle.telling.proofs.Seats.{seats-entry, seats-cursors, seats-blocked, seats-woken, seats-resumed, seats-yielded, seats-stopped-current, seats-stopped-other, seats-released}
 use Rattle.telling.proofs.Fields.{cursors-kept, priority-stays}
 use Rattle.telling.proofs.Others.{slot-stopped, slot-stays}
-use Rattle.telling.proofs.Telling.{behind-put, tell-changes, tell-keeps, only-current, made-semaphore, made-process, slot-seats, slot-of, suspending, killing, kill-step, kill-did, kill-frees}
+use Rattle.telling.proofs.Telling.{tell-changes, tell-keeps, only-current, made-semaphore, made-process, slot-seats, slot-of, suspending, killing, kill-step, kill-did, kill-frees}
 
 -- Refusals
 
@@ -78,31 +75,6 @@ priorities-stay = priority-stays
 -- a free or suspended process stays so, unless the call makes, kills, resumes or suspends it
 pub quiet-stay : {t : Tables} → Sound t → (x : ℕ) → (isFree (stateOf t x) || isSuspended (stateOf t x)) ≡ true → (c : Call) → PassesBy t c x → process (step t c .tables) x ≡ process t x
 quiet-stay = slot-stays
-
--- Rescheduling
-
--- a process put on the ready list goes behind every entry whose priority is equal or higher
-pub ready-put : {t : Tables} → Laid t → (p : ℕ) → p < processLimit → isReady (stateOf t p) ≡ false → PutBehind (priorityOf t) p (readyList t) (readyList (makeReady t p))
-ready-put {t} l p below h = rw (ready-behind l p below h) (behind-put (priorityOf t) p (readyList t) (l .falling))
-
--- an empty ready list: nothing changes
-pub reschedule-empty : (t : Tables) → readyList t ≡ [] → reschedule t ≡ t
-unfolding reschedule switch
-reschedule-empty t e = rw e
-
--- the current process is above the first ready one: nothing changes
-pub reschedule-higher : (t : Tables) (f c : ℕ) (fs cs : List ℕ) → readyList t ≡ f ∷ fs → currents t ≡ c ∷ cs → priorityOf t f < priorityOf t c → reschedule t ≡ t
-unfolding reschedule switch
-reschedule-higher t f c fs cs e k h = rw (e, k) (rw (lt-ltb (priorityOf t f) (priorityOf t c) h))
-
--- otherwise the current process is put behind its equals, and the first of that list runs
-pub reschedule-switches : {t : Tables} → Laid t → (f c : ℕ) (fs : List ℕ) → readyList t ≡ f ∷ fs → currents t ≡ c ∷ [] → priorityOf t c ≤ priorityOf t f → seats (reschedule t) ≡ headRuns (behind (priorityOf t) c (f ∷ fs))
-unfolding reseat
-reschedule-switches {t} l f c fs e k h = seats-reschedule l (rw k (omega arith)) ∙ rw (e, k, le-ltb (priorityOf t f) (priorityOf t c) h)
-
--- nobody is current any more: the first of the ready list runs
-pub reschedule-starts : {t : Tables} → Laid t → currents t ≡ [] → seats (reschedule t) ≡ headRuns (readyList t)
-reschedule-starts {t} l k = seats-reschedule l (rw k (omega arith)) ∙ rw k (reseat-nobody (priorityOf t) (readyList t))
 
 module _ {t : Tables} (S : Sound t) where
   -- 01 wait s: count minus 1
