@@ -17,3 +17,4 @@ pub mod Cursors
 pub mod Others
 pub mod Telling
 pub mod Told
+pub mod Given
