@@ -1,4 +1,5 @@
 pub mod Accounts
+pub mod Sums
 pub mod Demand3
 pub mod Runs
 pub mod Main
