@@ -101,15 +101,19 @@ change f (some n) = some (f n)
 abbrev pub names : ℤ → ℕ → Bool
 names a s = eqb (natAbs a) s
 
--- What an entry is to semaphore s: it sets the count, to what it is made with or reset to; it ends the record; a signal; a wait; a kill, of whomever; or nothing
+-- What an entry is to a semaphore
 
 pub data Event : Type 0 where
+  -- it is made with this count, or reset to it
   Sets : ℤ → Event
-  Ends Signals Waits : Event
+  -- it is deleted
+  Ends : Event
+  Signals Waits : Event
+  -- this process is killed, whether or not it waits here
   Kills : ℕ → Event
   Nothing : Event
 
--- a call that was answered with value v
+-- what a call that was answered with value v is to semaphore s
 abbrev pub accepted : ℕ → Call → ℤ → Event
 accepted s (Wait a) v = if names a s then Waits else Nothing
 accepted s (Signal a) v = if names a s then Signals else Nothing

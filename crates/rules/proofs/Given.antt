@@ -4,7 +4,7 @@ use native.Mathlib.Omega.{arith}
 use mathlib.Core.Bool.{Bool, true, false, not, _&&_, _||_, true≢false}
 use mathlib.Core.List.{List, [], _∷_, _++_, append-nil}
 use mathlib.Core.Logic.{_≢_, _↔_, _⊎_, inl, inr, ⊎-elim}
-use mathlib.Core.Path.{_≡_, refl, sym, ap, _∙_}
+use mathlib.Core.Path.{_≡_, refl, sym, ap, subst, _∙_}
 use lib.Dec.{eqb, ltb}
 use lib.IntN.{ℤ, pos, negsuc, natAbs}
 use lib.Signed.{_≤ℤ_, _<ℤ_, leZ, ltZ}
@@ -31,8 +31,8 @@ use Rattle.rules.specs.declared.Outcome.{Outcome}
 use Rattle.rules.specs.Answers.{Check, _when_, refused, unless}
 use Rattle.rules.specs.Calls.{Call, Wait, Signal, MakeSemaphore, Delete, Reset, MakeProcess, Resume, Suspend, Kill, Yield, Count, below0, outside, largest, noSemaphore, notUsed, noCount, noProcess, notLive, nullProcess, freeSemaphores, freeSlots, checks, deed, finish, step}
 use Rattle.rules.specs.Enter.{isZero, spare, callOf, numbered, enter}
-use Rattle.rules.specs.Reasons.{Reason, Exactly, FirstOf, noSuchSemaphore, semaphoreFree, countBelow0, allUsed, countLargest, noSuchProcess, slotFree, allLive, notSuspended, notRunnable, process0, process0Waits, noSuchPriority, noSuchCall, spareArgument, ownReasons, reasons}
-use Rattle.rules.proofs.Refusals.{finish-done, numbered-never-12}
+use Rattle.rules.specs.Reasons.{Reason, Exactly, FirstOf, noSuchSemaphore, semaphoreFree, countBelow0, allUsed, countLargest, noSuchProcess, slotFree, allLive, notSuspended, notRunnable, process0, process0Waits, noSuchPriority, noSuchCall, spareArgument, notSound, ownReasons, reasons}
+use Rattle.rules.proofs.Refusals.{Ranged, finish-done, numbered-ranged, numbered-never-12}
 
 -- Number by number
 
@@ -178,6 +178,13 @@ module _ {t : Tables} (S : Sound t) (F : CountsFit t) where
   numbered-exactly m a b n =
       unless-exactly t ((13 when ltb m 1 || ltb 11 m) ∷ (14 when spare m a b) ∷ []) (noSuchCall m ∷ spareArgument m a b ∷ []) (ownReasons t (callOf m a b)) (step t (callOf m a b)) n
       (given-13 m, (given-14 m a b, tt)) (step-exactly (callOf m a b) n)
+
+pub given-15 : (t : Tables) (m : ℕ) (a b : ℤ) → (enter t m a b .outcome .answer ≡ Refused 15) ↔ notSound t .holds
+unfolding enter
+given-15 t m a b =
+    split (soundNow t)
+    (λ e. rw e (λ r. let k = subst Ranged r (numbered-ranged t m a b) in absurd (omega arith), λ k. absurd (k (checked-sound e))))
+    (λ e. rw e (λ r S. true≢false (sym (sound-checked S) ∙ e), λ k. refl))
 
 -- every call, by its number: 15, 13, 14, then the call's own
 pub given-exactly : (t : Tables) → CountsFit t → (m : ℕ) (a b : ℤ) (n : ℕ) → (enter t m a b .outcome .answer ≡ Refused n) ↔ FirstOf (reasons t m a b) n
