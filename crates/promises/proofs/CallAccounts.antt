@@ -23,7 +23,7 @@ use Rattle.rules.proofs.Resched.{Settled}
 use Rattle.rules.proofs.Effects.{Shows, Effect, settled-shows}
 use Rattle.rules.proofs.Refusals.{unless-cases, step-cases}
 use Rattle.rules.proofs.Changes.{changeOf, Loses, Becomes, Allowed, call-changes}
-use Rattle.promises.specs.Record.{Request, made, Account, stillBlocked, among, opened, waited, signalled, killed, change, noted, answered, entered}
+use Rattle.promises.specs.Record.{Request, made, Account, stillBlocked, among, opened, killed, change, Event, Sets, Ends, Signals, Waits, Nothing, accepted, answered, entered, noted}
 use Rattle.promises.proofs.Accounts.{Agrees, agrees-waited, agrees-signalled, agrees-killed, agrees-spared}
 
 -- the account is the one of semaphore r in t
@@ -40,12 +40,12 @@ settled-agree g r old h = agree-shows old (settled-shows g r) h
 
 -- Calls that change how one semaphore is seen
 
-effect-agree : {t t′ : Tables} {s : ℕ} {u : Bool} {c : ℤ} {q : List ℕ} → Effect t t′ s u c q → (f : Option Account → Option Account) → ((old : Option Account) → Agree t s old → Agrees u c q (f old))
-    → (r : ℕ) (old : Option Account) → Agree t r old → Agree t′ r (if eqb s r then f old else old)
-effect-agree {t} {t′} {s} {u} {c} {q} E f h r old a = go (eqb s r) refl
+effect-agree : {t t′ : Tables} {s : ℕ} {u : Bool} {c : ℤ} {q : List ℕ} → Effect t t′ s u c q → (p : ℕ) (x : Event) → ((old : Option Account) → Agree t s old → Agrees u c q (noted p x old))
+    → (r : ℕ) (old : Option Account) → Agree t r old → Agree t′ r (noted p (if eqb s r then x else Nothing) old)
+effect-agree {t} {t′} {s} {u} {c} {q} E p x h r old a = go (eqb s r) refl
   where
-    go : (b : Bool) → eqb s r ≡ b → Agree t′ r (if b then f old else old)
-    go true e = subst (λ (n : ℕ). Agree t′ n (f old)) (eqb-true s r e) (agree-shows (f old) (E .here) (h old (subst (λ (n : ℕ). Agree t n old) (sym (eqb-true s r e)) a)))
+    go : (b : Bool) → eqb s r ≡ b → Agree t′ r (noted p (if b then x else Nothing) old)
+    go true e = subst (λ (n : ℕ). Agree t′ n (noted p x old)) (eqb-true s r e) (agree-shows (noted p x old) (E .here) (h old (subst (λ (n : ℕ). Agree t n old) (sym (eqb-true s r e)) a)))
     go false e = agree-shows old (E .elsewhere r (λ d. eqb-false s r e (sym d))) a
 
 agrees-opened : (c : ℤ) → Agrees true c [] (some (opened c))
@@ -85,12 +85,12 @@ module _ {t : Tables} (S : Sound t) where
           (agrees-spared (isUsed t r) (countOf t r) (queue t r) p old (absent p r (ap (isThe r) e ∙ d)) a)
 
   -- by call, as the record is: this ties what the rules change to what the record says
-  call-agrees : (c : Call) (t′ : Tables) → Allowed t (changeOf t c) × Becomes t (changeOf t c) t′ → (r : ℕ) (old : Option Account) → Agree t r old → Agree t′ r (noted r (currentOf t) c (deed t c .value) old)
-  call-agrees (Wait a) t′ (k, E) = effect-agree E (change (waited (currentOf t))) (λ old h. agrees-waited (countOf t (natAbs a)) (queue t (natAbs a)) (currentOf t) old (in-use (natAbs a) k old h))
-  call-agrees (Signal a) t′ ((k, m), E) = effect-agree E (change signalled) (λ old h. agrees-signalled (countOf t (natAbs a)) (queue t (natAbs a)) old (in-use (natAbs a) k old h))
-  call-agrees (MakeSemaphore a) t′ (k, E) = effect-agree E (λ old. some (opened a)) (λ old h. agrees-opened a)
-  call-agrees (Delete a) t′ (k, E) = effect-agree E (λ old. none) (λ old h. tt)
-  call-agrees (Reset a b) t′ (k, E) = effect-agree E (λ old. some (opened b)) (λ old h. agrees-opened b)
+  call-agrees : (c : Call) (t′ : Tables) → Allowed t (changeOf t c) × Becomes t (changeOf t c) t′ → (r : ℕ) (old : Option Account) → Agree t r old → Agree t′ r (noted (currentOf t) (accepted r c (deed t c .value)) old)
+  call-agrees (Wait a) t′ (k, E) = effect-agree E (currentOf t) Waits (λ old h. agrees-waited (countOf t (natAbs a)) (queue t (natAbs a)) (currentOf t) old (in-use (natAbs a) k old h))
+  call-agrees (Signal a) t′ ((k, m), E) = effect-agree E (currentOf t) Signals (λ old h. agrees-signalled (countOf t (natAbs a)) (queue t (natAbs a)) old (in-use (natAbs a) k old h))
+  call-agrees (MakeSemaphore a) t′ (k, E) = effect-agree E (currentOf t) (Sets a) (λ old h. agrees-opened a)
+  call-agrees (Delete a) t′ (k, E) = effect-agree E (currentOf t) Ends (λ old h. tt)
+  call-agrees (Reset a b) t′ (k, E) = effect-agree E (currentOf t) (Sets b) (λ old h. agrees-opened b)
   call-agrees (MakeProcess a) t′ (k, g) = settled-agree g
   call-agrees (Resume a) t′ (k, g) = settled-agree g
   call-agrees (Suspend a) t′ (k, g) = settled-agree g
@@ -99,12 +99,12 @@ module _ {t : Tables} (S : Sound t) where
   call-agrees (Count a) t′ (k, g) = settled-agree g
 
   -- refusals keep what they find
-  step-agree : (c : Call) (r : ℕ) (old : Option Account) → Agree t r old → Agree (step t c .tables) r (answered r (currentOf t) c (step t c .answer) old)
+  step-agree : (c : Call) (r : ℕ) (old : Option Account) → Agree t r old → Agree (step t c .tables) r (noted (currentOf t) (answered r c (step t c .answer)) old)
   step-agree c r old h =
-      step-cases t (λ o. Agree (o .tables) r (answered r (currentOf t) c (o .answer) old)) (λ n. h) c
+      step-cases t (λ o. Agree (o .tables) r (noted (currentOf t) (answered r c (o .answer)) old)) (λ n. h) c
       (λ k. call-agrees c (finish (deed t c) .tables) (call-changes S c k) r old h)
 
-  pub numbered-agree : (q : Request) (r : ℕ) (old : Option Account) → Agree t r old → Agree (made t q .tables) r (entered r (record { caller = currentOf t; request = q; answer = made t q .answer }) (formOf (q .number)) old)
+  pub numbered-agree : (q : Request) (r : ℕ) (old : Option Account) → Agree t r old → Agree (made t q .tables) r (noted (currentOf t) (entered r (formOf (q .number)) (record { caller = currentOf t; request = q; answer = made t q .answer })) old)
   unfolding numbered
   numbered-agree q r old h = go (formOf (q .number))
     where
@@ -114,8 +114,8 @@ module _ {t : Tables} (S : Sound t) where
       b : ℤ
       b = q .b
 
-      go : (f : Option Form) → Agree (called t f a b .tables) r (entered r (record { caller = currentOf t; request = q; answer = called t f a b .answer }) f old)
+      go : (f : Option Form) → Agree (called t f a b .tables) r (noted (currentOf t) (entered r f (record { caller = currentOf t; request = q; answer = called t f a b .answer })) old)
       go none = h
       go (some f) =
-          unless-cases (λ m. refused m t) (λ o. Agree (o .tables) r (answered r (currentOf t) (callOf f a b) (o .answer) old)) (λ m. h) ((14 when spare f a b) ∷ []) (step t (callOf f a b))
+          unless-cases (λ m. refused m t) (λ o. Agree (o .tables) r (noted (currentOf t) (answered r (callOf f a b) (o .answer)) old)) (λ m. h) ((14 when spare f a b) ∷ []) (step t (callOf f a b))
           (λ k. step-agree (callOf f a b) r old h)

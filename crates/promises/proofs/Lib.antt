@@ -1,4 +1,5 @@
 pub mod Accounts
+pub mod Sums
 pub mod CallAccounts
 pub mod Runs
 pub mod Demand

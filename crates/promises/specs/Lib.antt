@@ -1,4 +1,5 @@
 pub mod Record
+pub mod Sum
 pub mod Demand
 pub mod Kernels
 pub mod Edges

@@ -1,12 +1,15 @@
 -- A call is refused by the first check that holds, and then nothing changes; or no check holds, and it is done. Assumes nothing.
 use Prim.Native.Nat.{_≤_, zero, suc, ℕ}
 use native.Mathlib.Omega.{arith}
-use mathlib.Core.Bool.{Bool, false, true}
-use mathlib.Core.List.{List, [], _++_, _∷_}
+use mathlib.Core.Bool.{Bool, _&&_, false, false≢true, not, true}
+use mathlib.Core.List.{List, [], _∷_}
 use mathlib.Core.Option.{Option, none, some, Option·none-ne-some, Option·some-injective}
-use mathlib.Core.Path.{_∙_, _≡_, ap, refl, subst}
+use mathlib.Core.Path.{_≡_, refl, subst}
+use lib.Dec.{eqb, leb, ltb}
 use lib.IntN.{ℤ}
+use borrow.Author.Tests.{leb-true, ltb-true}
 use Rattle.lists.specs.Lists.{if_then_else_}
+use Rattle.lists.proofs.Bools.{both}
 use Rattle.tables.specs.declared.Tables.{Tables}
 use Rattle.rules.specs.declared.Answer.the-variants.{Done, Refused}
 use Rattle.rules.specs.declared.Outcome.{Outcome}
@@ -77,55 +80,58 @@ pub form-has : (P : Form → Type 0) → AllForms P forms → (n : ℕ) (f : For
 form-has P h zero f e = absurd (Option·none-ne-some f e)
 form-has P h (suc n) f e = line-has P forms h n f e
 
--- the first check that holds gives its number
+-- Every refusal of a call on sound tables has one of the paper's numbers: 1 to 14, and never 12, which is for a line of the bench
 
-unless-first : {A : Type 0} (refuse : ℕ → A) (before after : List Check) (n : ℕ) (o : A) → NoneHolds before → unless refuse (before ++ (n when true) ∷ after) o ≡ refuse n
-unless-first refuse [] after n o h = refl
-unless-first refuse (c ∷ before) after n o (h, hs) = rw h (unless-first refuse before after n o hs)
+abbrev isOwn : ℕ → Bool
+isOwn n = ltb 0 n && (leb n 14 && not (eqb n 12))
 
-pub step-first : (t : Tables) (c : Call) (before after : List Check) (n : ℕ) → checks t c ≡ before ++ (n when true) ∷ after → NoneHolds before → step t c ≡ refused n t
-unfolding step
-step-first t c before after n e h = ap (λ (cs : List Check). unless (λ m. refused m t) cs (finish (deed t c))) e ∙ unless-first (λ m. refused m t) before after n (finish (deed t c)) h
+abbrev allOwn : List Check → Bool
+allOwn [] = true
+allOwn (c ∷ cs) = isOwn (c .number) && allOwn cs
 
--- Every refusal of a call on sound tables has one of the paper's numbers, 1 to 14
+abbrev Own : Answer → Type 0
+Own (Done v) = Unit
+Own (Refused n) = isOwn n ≡ true
+
+unless-own : (t : Tables) (cs : List Check) (o : Outcome) → allOwn cs ≡ true → Own (o .answer) → Own (unless (λ n. refused n t) cs o .answer)
+unless-own t [] o r h = h
+unless-own t (c ∷ cs) o r h = let k = both (isOwn (c .number)) (allOwn cs) r in go (c .holds) (k .0) (unless-own t cs o (k .1) h)
+  where
+    go : (b : Bool) → isOwn (c .number) ≡ true → Own (unless (λ n. refused n t) cs o .answer) → Own ((if b then refused (c .number) t else unless (λ n. refused n t) cs o) .answer)
+    go true r k = r
+    go false r k = k
+
+checks-own : (t : Tables) (c : Call) → allOwn (checks t c) ≡ true
+checks-own t (Wait a) = refl
+checks-own t (Signal a) = refl
+checks-own t (MakeSemaphore a) = refl
+checks-own t (Delete a) = refl
+checks-own t (Reset a b) = refl
+checks-own t (MakeProcess a) = refl
+checks-own t (Resume a) = refl
+checks-own t (Suspend a) = refl
+checks-own t (Kill a) = refl
+checks-own t Yield = refl
+checks-own t (Count a) = refl
+
+numbered-own : (t : Tables) (n : ℕ) (a b : ℤ) → Own (numbered t n a b .answer)
+unfolding numbered step
+numbered-own t n a b = go (formOf n)
+  where
+    go : (f : Option Form) → Own (called t f a b .answer)
+    go none = refl
+    go (some f) = unless-own t ((14 when spare f a b) ∷ []) (step t (callOf f a b)) refl (unless-own t (checks t (callOf f a b)) (finish (deed t (callOf f a b))) (checks-own t (callOf f a b)) tt)
 
 abbrev pub Ranged : Answer → Type 0
 Ranged (Done v) = Unit
 Ranged (Refused n) = (1 ≤ n) × (n ≤ 14)
 
-abbrev AllRanged : List Check → Type 0
-AllRanged [] = Unit
-AllRanged (c ∷ cs) = ((1 ≤ c .number) × (c .number ≤ 14)) × AllRanged cs
-
-unless-ranged : (t : Tables) (cs : List Check) (o : Outcome) → AllRanged cs → Ranged (o .answer) → Ranged (unless (λ n. refused n t) cs o .answer)
-unless-ranged t [] o r h = h
-unless-ranged t (c ∷ cs) o (r, rs) h = go (c .holds) (unless-ranged t cs o rs h)
-  where
-    go : (b : Bool) → Ranged (unless (λ n. refused n t) cs o .answer) → Ranged ((if b then refused (c .number) t else unless (λ n. refused n t) cs o) .answer)
-    go true k = r
-    go false k = k
-
-checks-ranged : (t : Tables) (c : Call) → AllRanged (checks t c)
-checks-ranged t (Wait a) = ((omega arith, omega arith), ((omega arith, omega arith), ((omega arith, omega arith), tt)))
-checks-ranged t (Signal a) = ((omega arith, omega arith), ((omega arith, omega arith), ((omega arith, omega arith), tt)))
-checks-ranged t (MakeSemaphore a) = ((omega arith, omega arith), ((omega arith, omega arith), tt))
-checks-ranged t (Delete a) = ((omega arith, omega arith), ((omega arith, omega arith), tt))
-checks-ranged t (Reset a b) = ((omega arith, omega arith), ((omega arith, omega arith), ((omega arith, omega arith), tt)))
-checks-ranged t (MakeProcess a) = ((omega arith, omega arith), ((omega arith, omega arith), tt))
-checks-ranged t (Resume a) = ((omega arith, omega arith), ((omega arith, omega arith), ((omega arith, omega arith), tt)))
-checks-ranged t (Suspend a) = ((omega arith, omega arith), ((omega arith, omega arith), ((omega arith, omega arith), ((omega arith, omega arith), tt))))
-checks-ranged t (Kill a) = ((omega arith, omega arith), ((omega arith, omega arith), ((omega arith, omega arith), tt)))
-checks-ranged t Yield = tt
-checks-ranged t (Count a) = ((omega arith, omega arith), ((omega arith, omega arith), tt))
-
-step-ranged : (t : Tables) (c : Call) → Ranged (step t c .answer)
-unfolding step
-step-ranged t c = unless-ranged t (checks t c) (finish (deed t c)) (checks-ranged t c) tt
+own-ranged : (r : Answer) → Own r → Ranged r
+own-ranged (Done v) h = tt
+own-ranged (Refused n) h = let k = both (ltb 0 n) (leb n 14 && not (eqb n 12)) h in (ltb-true 0 n (k .0), leb-true n 14 (both (leb n 14) (not (eqb n 12)) (k .1) .0))
 
 pub numbered-ranged : (t : Tables) (n : ℕ) (a b : ℤ) → Ranged (numbered t n a b .answer)
-unfolding numbered
-numbered-ranged t n a b = go (formOf n)
-  where
-    go : (f : Option Form) → Ranged (called t f a b .answer)
-    go none = (omega arith, omega arith)
-    go (some f) = unless-ranged t ((14 when spare f a b) ∷ []) (step t (callOf f a b)) ((omega arith, omega arith), tt) (step-ranged t (callOf f a b))
+numbered-ranged t n a b = own-ranged (numbered t n a b .answer) (numbered-own t n a b)
+
+pub numbered-never-12 : (t : Tables) (n : ℕ) (a b : ℤ) → numbered t n a b .answer ≡ Refused 12 → ⊥
+numbered-never-12 t n a b e = false≢true (subst Own e (numbered-own t n a b))

@@ -1,3 +1,5 @@
+pub mod First
+pub mod Given
 pub mod Fields
 pub mod Seats
 pub mod Rescheduling

@@ -21,13 +21,13 @@ use Rattle.tables.proofs.States.{is-suspended}
 use Rattle.tables.proofs.LineLaws.{at-same, line-absent, live-slot}
 use Rattle.rules.specs.declared.Answer.the-variants.{Done, Refused}
 use Rattle.rules.specs.declared.Outcome.{Outcome}
-use Rattle.rules.specs.Answers.{valueOf, done, refused, Check, _when_, NoneHolds}
-use Rattle.rules.specs.Calls.{Call, Wait, Signal, MakeSemaphore, Delete, Reset, MakeProcess, Resume, Suspend, Kill, Yield, Count, below0, freeSemaphores, freeSlots, checks, Accepted, step}
+use Rattle.rules.specs.Answers.{valueOf, done, refused}
+use Rattle.rules.specs.Calls.{Call, Wait, Signal, MakeSemaphore, Delete, Reset, MakeProcess, Resume, Suspend, Kill, Yield, Count, below0, freeSemaphores, freeSlots, Accepted, step}
 use Rattle.telling.specs.Telling.{MakesNothing, Spares, PassesBy, inUse, notInUse, seats, seated, behind, headRuns, reseat, released, Changes, Keeps}
 use Rattle.rules.proofs.WaitSignal.{blocks-not-null}
 use Rattle.rules.proofs.Slots.{kill-prepared}
 use Rattle.rules.proofs.Found.{slot-found, semaphore-found}
-use Rattle.rules.proofs.Refusals.{step-done, step-refused, step-first}
+use Rattle.rules.proofs.Refusals.{step-done, step-refused}
 use Rattle.rules.proofs.Changes.{not-null, used, call-changes}
 use Rattle.telling.proofs.Seats.{seats-entry, seats-cursors, seats-blocked, seats-woken, seats-resumed, seats-yielded, seats-stopped-current, seats-stopped-other, seats-released}
 use Rattle.telling.proofs.Fields.{cursors-kept, priority-stays}
@@ -35,10 +35,6 @@ use Rattle.telling.proofs.Others.{slot-stopped, slot-stays}
 use Rattle.telling.proofs.Telling.{tell-changes, tell-keeps, only-current, made-semaphore, made-process, slot-seats, slot-of, suspending, killing, kill-step, kill-did, kill-frees}
 
 -- Refusals
-
--- of the checks that a call fails the first in order gives the refusal number
-pub refused-first : (t : Tables) (c : Call) (before after : List Check) (n : ℕ) → checks t c ≡ before ++ (n when true) ∷ after → NoneHolds before → step t c ≡ refused n t
-refused-first = step-first
 
 -- a refused call changes nothing, and its value is -1
 pub refused-nothing : (t : Tables) (c : Call) (n : ℕ) → step t c .answer ≡ Refused n → (step t c .tables ≡ t) × (valueOf (step t c .answer) ≡ negsuc 0)

@@ -11,7 +11,15 @@ use Rattle.tables.specs.declared.Tables.{Tables}
 use Rattle.tables.specs.Readers.{priorityOf, isUsed, countOf, readyList, queue, currents}
 use Rattle.rules.specs.declared.Answer.the-variants.{Done}
 use Rattle.rules.specs.declared.Outcome.{Outcome}
+use Rattle.rules.specs.Answers.{Check, _when_, NoneHolds}
 use Rattle.rules.specs.Calls.{Call, MakeSemaphore, MakeProcess, Resume, Suspend, Kill, freeSlots}
+
+-- n is the number of the first of these checks that holds
+pub record FirstHolds (cs : List Check) (n : ℕ) : Type 0 where
+  pub before : List Check
+  pub after : List Check
+  pub found : cs ≡ before ++ (n when true) ∷ after
+  pub none : NoneHolds before
 
 -- the call makes no semaphore and no process
 pub record MakesNothing (c : Call) : Type 0 where
