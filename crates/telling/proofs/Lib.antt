@@ -1,4 +1,4 @@
-pub mod First
+pub mod Numbers
 pub mod Given
 pub mod Fields
 pub mod Seats

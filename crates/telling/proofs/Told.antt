@@ -5,7 +5,7 @@ use mathlib.Core.Bool.{true, false, not, _||_}
 use mathlib.Core.List.{List, [], _∷_, _++_}
 use mathlib.Core.Path.{_≡_, refl, ap, _∙_}
 use lib.Dec.{eqb}
-use lib.IntN.{ℤ, pos, negsuc, sucℤ, predℤ}
+use lib.IntN.{ℤ, pos, sucℤ, predℤ}
 use lib.ListN.{drop}
 use Rattle.lists.specs.Lists.{if_then_else_, without, first}
 use Rattle.lists.specs.Numbers.{FirstFrom}
@@ -19,42 +19,20 @@ use Rattle.tables.specs.Setters.{inState, newSlot, withCount}
 use Rattle.tables.specs.Sound.{Sound}
 use Rattle.tables.proofs.States.{is-suspended}
 use Rattle.tables.proofs.LineLaws.{at-same, line-absent, live-slot}
-use Rattle.rules.specs.declared.Answer.the-variants.{Done, Refused}
+use Rattle.rules.specs.declared.Answer.the-variants.{Done}
 use Rattle.rules.specs.declared.Outcome.{Outcome}
-use Rattle.rules.specs.Answers.{valueOf, done, refused}
+use Rattle.rules.specs.Answers.{done}
 use Rattle.rules.specs.Calls.{Call, Wait, Signal, MakeSemaphore, Delete, Reset, MakeProcess, Resume, Suspend, Kill, Yield, Count, below0, freeSemaphores, freeSlots, Accepted, step}
 use Rattle.telling.specs.Telling.{MakesNothing, Spares, PassesBy, inUse, notInUse, seats, seated, behind, headRuns, reseat, released, Changes, Keeps}
 use Rattle.rules.proofs.WaitSignal.{blocks-not-null}
 use Rattle.rules.proofs.Slots.{kill-prepared}
 use Rattle.rules.proofs.Found.{slot-found, semaphore-found}
-use Rattle.rules.proofs.Refusals.{step-done, step-refused}
+use Rattle.rules.proofs.Refusals.{step-done}
 use Rattle.rules.proofs.Changes.{not-null, used, call-changes}
 use Rattle.telling.proofs.Seats.{seats-entry, seats-cursors, seats-blocked, seats-woken, seats-resumed, seats-yielded, seats-stopped-current, seats-stopped-other, seats-released}
 use Rattle.telling.proofs.Fields.{cursors-kept, priority-stays}
 use Rattle.telling.proofs.Others.{slot-stopped, slot-stays}
 use Rattle.telling.proofs.Telling.{tell-changes, tell-keeps, only-current, made-semaphore, made-process, slot-seats, slot-of, suspending, killing, kill-step, kill-did, kill-frees}
-
--- Refusals
-
--- a refused call changes nothing, and its value is -1
-pub refused-nothing : (t : Tables) (c : Call) (n : ℕ) → step t c .answer ≡ Refused n → (step t c .tables ≡ t) × (valueOf (step t c .answer) ≡ negsuc 0)
-refused-nothing t c n e = (step-refused t c n e, ap valueOf e)
-
-module _ (t : Tables) (n : ℕ) where
-  -- a semaphore number below 0 is refused with 1
-  pub no-semaphore : (step t (Wait (negsuc n)) ≡ refused 1 t) × (step t (Signal (negsuc n)) ≡ refused 1 t) × (step t (Delete (negsuc n)) ≡ refused 1 t) × (step t (Count (negsuc n)) ≡ refused 1 t)
-  unfolding step
-  no-semaphore = (refl, refl, refl, refl)
-
-  -- but a reset to a count below 0 with 3
-  pub no-reset : (c : ℕ) (b : ℤ) → (step t (Reset (negsuc n) (pos c)) ≡ refused 1 t) × (step t (Reset b (negsuc c)) ≡ refused 3 t)
-  unfolding step
-  no-reset c b = (refl, refl)
-
-  -- a process number below 0 is refused with 6, a priority below 0 with 11
-  pub no-process : (step t (Resume (negsuc n)) ≡ refused 6 t) × (step t (Suspend (negsuc n)) ≡ refused 6 t) × (step t (Kill (negsuc n)) ≡ refused 6 t) × (step t (MakeProcess (negsuc n)) ≡ refused 11 t)
-  unfolding step
-  no-process = (refl, refl, refl, refl)
 
 -- Cursors
 
