@@ -1,4 +1,3 @@
 pub mod Record
 pub mod Demand
-pub mod Kernels
 pub mod Edges
