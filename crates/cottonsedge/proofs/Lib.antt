@@ -1,4 +1,11 @@
 pub mod Standing
 pub mod Entry
 pub mod ByValue
+pub mod FieldLaws
+pub mod Calls
+pub mod Twelve
+pub mod SmallBytes
+pub mod Demand1
 pub mod Sessions
+pub mod ShutOut
+pub mod Edges

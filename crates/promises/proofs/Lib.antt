@@ -4,4 +4,3 @@ pub mod Demand3
 pub mod Runs
 pub mod Main
 pub mod Edges
-pub mod ShutOut
