@@ -14,6 +14,9 @@ use Rattle.cottonsedge.proofs.call.cottonsedge_call.Tie as tie
 is-sound-requires : tie.Need-is-sound-requires
 is-sound-requires c κs = search needs
 
+cast-pack : tie.Need-cast-pack
+cast-pack c = search needs
+
 pack-requires : tie.Need-pack-requires
 pack-requires c κs = search needs
 
@@ -56,6 +59,7 @@ cottonsedge-call-spec =
     tie.close
     (tie.spec
     is-sound-requires
+    cast-pack
     pack-requires
     same-length
     returns
