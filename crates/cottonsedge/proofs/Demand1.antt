@@ -19,7 +19,7 @@ use Rattle.tables.specs.Sound.{Sound}
 use Rattle.tables.specs.declared.Tables.{Tables}
 use Rattle.layout.proofs.Image.{bytes-back, stands-read}
 use Rattle.lists.proofs.Bools.{split}
-use Rattle.rules.proofs.Refusals.{Ranged, numbered-ranged, numbered-refused}
+use Rattle.rules.proofs.Refusals.{Ranged, numbered-never-12, numbered-ranged, numbered-refused}
 use Rattle.cottonsedge.specs.Demands.{Allowed, Asked, Bytes, Demand1, Result}
 use Rattle.cottonsedge.specs.Entries.{answerOf, bytesAfter}
 use Rattle.cottonsedge.specs.Fields.{refusalField}
@@ -27,7 +27,6 @@ use Rattle.cottonsedge.proofs.Calls.{call-bytes, call-packed, call-proc
 use Rattle.cottonsedge.proofs.Entry.{refused-answer, refused-bytes}
 use Rattle.cottonsedge.proofs.FieldLaws.{packed-small}
 use Rattle.cottonsedge.proofs.Standing.{good-formed, good-sound, sound-good}
-use Rattle.cottonsedge.proofs.Twelve.{numbered-not-12}
 
 -- what the contract allows
 abbrev pub exact : List ℕ → Request → Result
@@ -55,7 +54,7 @@ module _ {t : Tables} (S : Sound t) (F : CountsFit t) (q : Request) (k : Asked q
 
   not-12 : (x : Answer) → r ≡ x → numberOf x ≢ 12
   not-12 (Done v) e h = omega arith
-  not-12 (Refused m) e h = numbered-not-12 t (q .number) (q .a) (q .b) (e ∙ ap Refused h)
+  not-12 (Refused m) e h = numbered-never-12 t (q .number) (q .a) (q .b) (e ∙ ap Refused h)
 
   sound-demand1 : Demand1 (toBytes t) (exact (toBytes t) q)
   sound-demand1 =

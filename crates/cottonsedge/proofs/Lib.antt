@@ -3,9 +3,9 @@ pub mod Entry
 pub mod ByValue
 pub mod FieldLaws
 pub mod Calls
-pub mod Twelve
 pub mod SmallBytes
 pub mod Demand1
+pub mod Given
 pub mod Sessions
 pub mod ShutOut
 pub mod Edges

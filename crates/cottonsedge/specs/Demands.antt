@@ -1,13 +1,15 @@
 -- Demands 1 and 2, of the bytes that are lent and the number that is answered.
 use Prim.Native.Nat.{ℕ, _<_}
 use mathlib.Core.Bool.{true, false}
-use mathlib.Core.List.{List}
+use mathlib.Core.List.{List, _∷_}
 use mathlib.Core.Logic.{_≢_}
 use mathlib.Core.Path.{_≡_}
 use lib.ListN.{getD}
 use Rattle.tables.specs.Limits.{processLimit}
 use Rattle.soundness.specs.Good.{good}
+use Rattle.layout.specs.Bytes.{fromBytes}
 use Rattle.rules.specs.Enter.{nobody}
+use Rattle.rules.specs.Reasons.{Reason, _given_, numberedReasons}
 use Rattle.promises.specs.Record.{Request, ArgumentsFit}
 use Rattle.cottonsedge.specs.Fields.{answerEnd, refusalField, valueField, processField}
 use Rattle.cottonsedge.specs.Entries.{Called}
@@ -41,6 +43,15 @@ pub record Demand1 (bs : List ℕ) (x : Result) : Type 0 where
   pub sound : good bs ≡ true → (refusalField (x .answer) ≢ 15) × (processField (x .answer) < processLimit)
   -- 12 is the bench's alone
   pub never12 : refusalField (x .answer) ≢ 12
+
+-- when each refusal number is given: the first of these reasons that holds gives its own
+
+-- 15: the tables lent aren't sound, or are too short or too long
+abbrev pub notGood : List ℕ → Reason
+notGood bs = 15 given good bs ≡ false
+
+abbrev pub reasonsOfBytes : List ℕ → Request → List Reason
+reasonsOfBytes bs q = notGood bs ∷ numberedReasons (fromBytes bs) (q .number) (q .a) (q .b)
 
 -- Demand 2: the answer and every byte are those of the rules
 

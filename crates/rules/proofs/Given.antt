@@ -31,7 +31,7 @@ use Rattle.rules.specs.declared.Outcome.{Outcome}
 use Rattle.rules.specs.Answers.{Check, _when_, refused, unless}
 use Rattle.rules.specs.Calls.{Call, Wait, Signal, MakeSemaphore, Delete, Reset, MakeProcess, Resume, Suspend, Kill, Yield, Count, below0, outside, largest, noSemaphore, notUsed, noCount, noProcess, notLive, nullProcess, freeSemaphores, freeSlots, checks, deed, finish, step}
 use Rattle.rules.specs.Enter.{isZero, spare, callOf, numbered, enter}
-use Rattle.rules.specs.Reasons.{Reason, Exactly, FirstOf, noSuchSemaphore, semaphoreFree, countBelow0, allUsed, countLargest, noSuchProcess, slotFree, allLive, notSuspended, notRunnable, process0, process0Waits, noSuchPriority, noSuchCall, spareArgument, notSound, ownReasons, reasons}
+use Rattle.rules.specs.Reasons.{Reason, Exactly, FirstOf, noSuchSemaphore, semaphoreFree, countBelow0, allUsed, countLargest, noSuchProcess, slotFree, allLive, notSuspended, notRunnable, process0, process0Waits, noSuchPriority, noSuchCall, spareArgument, notSound, ownReasons, numberedReasons, reasons}
 use Rattle.rules.proofs.Refusals.{Ranged, finish-done, numbered-ranged, numbered-never-12}
 
 -- Number by number
@@ -173,7 +173,7 @@ module _ {t : Tables} (S : Sound t) (F : CountsFit t) where
   unfolding step
   step-exactly c n = rw (append-nil (ownReasons t c)) at (unless-exactly t (checks t c) (ownReasons t c) [] (finish (deed t c)) n (checks-given S F c) (finish-done (deed t c) n, λ w. absurd w))
 
-  numbered-exactly : (m : ℕ) (a b : ℤ) (n : ℕ) → (numbered t m a b .answer ≡ Refused n) ↔ FirstOf (noSuchCall m ∷ spareArgument m a b ∷ ownReasons t (callOf m a b)) n
+  pub numbered-exactly : (m : ℕ) (a b : ℤ) (n : ℕ) → (numbered t m a b .answer ≡ Refused n) ↔ FirstOf (numberedReasons t m a b) n
   unfolding numbered
   numbered-exactly m a b n =
       unless-exactly t ((13 when ltb m 1 || ltb 11 m) ∷ (14 when spare m a b) ∷ []) (noSuchCall m ∷ spareArgument m a b ∷ []) (ownReasons t (callOf m a b)) (step t (callOf m a b)) n

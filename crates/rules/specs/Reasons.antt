@@ -115,6 +115,10 @@ ownReasons t (Kill a) = noSuchProcess a ∷ process0 a ∷ slotFree t a ∷ []
 ownReasons t Yield = []
 ownReasons t (Count a) = noSuchSemaphore a ∷ semaphoreFree t a ∷ []
 
--- 15, 13, 14, then the call's own
+-- of sound tables: 13, 14, then the call's own
+abbrev pub numberedReasons : Tables → ℕ → ℤ → ℤ → List Reason
+numberedReasons t n a b = noSuchCall n ∷ spareArgument n a b ∷ ownReasons t (callOf n a b)
+
+-- 15 stands before them
 abbrev pub reasons : Tables → ℕ → ℤ → ℤ → List Reason
-reasons t n a b = notSound t ∷ noSuchCall n ∷ spareArgument n a b ∷ ownReasons t (callOf n a b)
+reasons t n a b = notSound t ∷ numberedReasons t n a b
