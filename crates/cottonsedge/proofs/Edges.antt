@@ -1,50 +1,26 @@
 -- The table of edges, of the bytes, for every kernel that meets demand 2. Assumes nothing.
-use Prim.Native.Nat.{_^_, ℕ}
-use mathlib.Core.Bool.{Bool, _&&_, true}
+use Prim.Native.Nat.{ℕ}
+use mathlib.Core.Bool.{true}
 use mathlib.Core.List.{List, [], _∷_, reverse}
 use mathlib.Core.Path.{_∙_, _≡_, refl}
-use lib.Dec.{ltb}
-use lib.IntN.{ℤ}
 use lib.ListN.{length}
-use lib.Signed.{mag}
 use mir.Syntax.{w32}
-use mir.Val.{hbits}
 use mir.ValLaws.{toZ-ofZ}
-use borrow.Author.Tests.{ltb-true}
 use Rattle.layout.specs.Bytes.{fromBytes}
 use Rattle.layout.specs.Offsets.{size}
 use Rattle.promises.specs.Edges.{Each, Edge, edges, sightOf}
 use Rattle.promises.specs.Record.{Request, after, made}
 use Rattle.rules.specs.Answers.{valueOf}
 use Rattle.tables.specs.Boot.{boot}
-use Rattle.lists.proofs.Bools.{both}
 use Rattle.promises.proofs.Edges.{edges-hold}
 use Rattle.promises.proofs.Runs.{boot-run-fits, boot-run-sound}
 use Rattle.cottonsedge.specs.Demands.{Demand2, Kernel}
 use Rattle.cottonsedge.specs.Edges.{sightOfBytes}
 use Rattle.cottonsedge.specs.Entries.{booted}
 use Rattle.cottonsedge.specs.Sessions.{AllAsked, given, left}
+use Rattle.cottonsedge.proofs.Asked.{allAsked, asked-fit, tested}
 use Rattle.cottonsedge.proofs.Calls.{value-fits}
-use Rattle.cottonsedge.proofs.Sessions.{asked-fit, boot-bytes, demand2-steps, left-tables, steps-process, steps-refusal, steps-value}
-
--- Whether requests can be asked, as it is computed
-
-abbrev fits : ℤ → Bool
-fits z = ltb (mag z) (2 ^ hbits w32)
-
-abbrev allAsked : List Request → Bool
-allAsked [] = true
-allAsked (q ∷ qs) = (ltb (q .number) 256 && (fits (q .a) && fits (q .b))) && allAsked qs
-
-tested : (requests : List Request) → allAsked requests ≡ true → AllAsked requests
-tested [] h = tt
-tested (q ∷ qs) h =
-    let w = both (ltb (q .number) 256 && (fits (q .a) && fits (q .b))) (allAsked qs) h in
-    let x = both (ltb (q .number) 256) (fits (q .a) && fits (q .b)) (w .0) in
-    let y = both (fits (q .a)) (fits (q .b)) (x .1) in (
-      record { number = ltb-true _ _ (x .0); arguments = record { a = record { sfits = ltb-true _ _ (y .0) }; b = record { sfits = ltb-true _ _ (y .1) } } },
-      tested qs (w .1),
-    )
+use Rattle.cottonsedge.proofs.Sessions.{boot-bytes, demand2-steps, left-tables, steps-process, steps-refusal, steps-value}
 
 -- the requests of a line, the latest first
 abbrev requestsOf : Edge → List Request

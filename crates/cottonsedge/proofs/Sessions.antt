@@ -25,13 +25,10 @@ use Rattle.cottonsedge.specs.Demands.{Demand2, Kernel}
 use Rattle.cottonsedge.specs.Entries.{answerOf, booted}
 use Rattle.cottonsedge.specs.Fields.{processField, refusalField, unpacked, valueField}
 use Rattle.cottonsedge.specs.Sessions.{AllAsked, Steps, exchanges, given, left, recordSeen, toldLast}
+use Rattle.cottonsedge.proofs.Asked.{asked-fit}
 use Rattle.cottonsedge.proofs.Calls.{back, call-answer, call-bytes, call-process, call-refusal, call-value}
 use Rattle.cottonsedge.proofs.SmallBytes.{sound-bytes}
 use Rattle.cottonsedge.proofs.Standing.{sound-good}
-
-pub asked-fit : (requests : List Request) → AllAsked requests → AllFit requests
-asked-fit [] k = tt
-asked-fit (q ∷ earlier) (k, ks) = (k .arguments, asked-fit earlier ks)
 
 boot-runs : currentOf boot ≡ 0
 unfolding boot line filter firstOr listed

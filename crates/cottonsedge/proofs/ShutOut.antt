@@ -1,5 +1,5 @@
 -- Demand 2 leaves one kernel, and shuts the wrong ones out by a session that tells them apart. Assumes nothing.
-use Prim.Native.Nat.{_<_, ℕ}
+use Prim.Native.Nat.{ℕ}
 use native.Mathlib.Omega.{arith}
 use mathlib.Core.List.{List, [], _∷_}
 use mathlib.Core.Path.{_∙_, _≡_, ap, refl, sym}
@@ -24,9 +24,10 @@ use Rattle.cottonsedge.specs.Demands.{Allowed, Asked, Bytes, Demand2, Ke
 use Rattle.cottonsedge.specs.Fields.{refusalField, valueField}
 use Rattle.cottonsedge.specs.Kernels.{Wrong, answersOne, asksTwice, changesNothing, makesUpCount, onlyFirst, refusesAll}
 use Rattle.cottonsedge.specs.Sessions.{AllAsked, Steps, given, left}
+use Rattle.cottonsedge.proofs.Asked.{asked-fit, tested}
 use Rattle.cottonsedge.proofs.Calls.{back}
 use Rattle.cottonsedge.proofs.Demand1.{exact}
-use Rattle.cottonsedge.proofs.Sessions.{asked-fit, demand2-steps, steps-bytes, steps-refusal, steps-value}
+use Rattle.cottonsedge.proofs.Sessions.{demand2-steps, steps-bytes, steps-refusal, steps-value}
 
 -- One kernel
 
@@ -44,11 +45,8 @@ demand2-met earlier bs q byte h = record { answer = refl; bytes = refl }
 
 -- The session
 
-zero-asked : (n : ℕ) → n < 256 → Asked (call n (pos 0))
-zero-asked n h = record { number = h; arguments = record { a = record { sfits = omega arith }; b = record { sfits = omega arith } } }
-
 asks-twice-asked : AllAsked asksTwice
-asks-twice-asked = (zero-asked 11 (omega arith), (zero-asked 2 (omega arith), (zero-asked 11 (omega arith), (zero-asked 3 (omega arith), tt))))
+asks-twice-asked = tested asksTwice refl
 
 -- up to each of its calls
 
