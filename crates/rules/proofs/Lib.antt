@@ -11,7 +11,6 @@ pub mod Does
 pub mod Kept
 pub mod Fits
 pub mod Numbers
-pub mod Session
 pub mod Seats
 pub mod Cursors
 pub mod Others
