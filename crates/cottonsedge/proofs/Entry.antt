@@ -1,6 +1,4 @@
 -- What the one-call entry promises, from what the call in place does. Assumes nothing.
-
--- Bytes that aren't good come back as they came, answered 15
 use Prim.Native.Nat.{_<_, ℕ}
 use mathlib.Core.Bool.{false, true}
 use mathlib.Core.List.{List}
@@ -13,7 +11,6 @@ use mir.ValLaws.{toZ-ofZ}
 use Rattle.layout.specs.Bytes.{fromBytes, toBytes, wellFormed}
 use Rattle.layout.specs.Offsets.{size}
 use Rattle.layout.specs.Stands.{Does, Stands}
-use Rattle.promises.specs.Record.{after}
 use Rattle.rules.specs.Enter.{enter, nobody, numbered}
 use Rattle.rules.specs.declared.Answer.{Answer}
 use Rattle.rules.specs.declared.Answer.the-variants.{Refused}
@@ -29,8 +26,11 @@ use Rattle.layout.proofs.Image.{bytes-back, same-bytes, stands-is, stands-made,
 use Rattle.lists.proofs.Bools.{split}
 use Rattle.rules.proofs.Kept.{sound-numbered}
 use Rattle.rules.proofs.Numbers.{enter-sound, enter-unsound}
-use Rattle.cottonsedge.specs.Entries.{answerOf, bootAnswer, booted, bytesAfter, checkAnswer, packed}
+use Rattle.cottonsedge.specs.Entries.{answerOf, bootAnswer, booted, bytesAfter, checkAnswer}
+use Rattle.cottonsedge.specs.Fields.{packed}
 use Rattle.cottonsedge.proofs.Standing.{good-formed, good-sound, running-is}
+
+-- Bytes that aren't good come back as they came, answered 15
 
 module _ (bs : List ℕ) (n : ℕ) (a b : ℤ) (g : good bs ≡ false) where
   unsound : wellFormed bs ≡ true → soundNow (fromBytes bs) ≡ false
@@ -75,11 +75,7 @@ module _ (bs after : List ℕ) (n : ℕ) (a b : ℤ) (r : Answer) (byte : (i : �
       let k : c ≡ currentOf (o .tables) = e ∙ ap (λ (x : Tables). sumOf x isCurrent) (stands-is (o .tables) after (did .1)) ∙ running-is (sound-numbered (good-sound bs g) n a b) in
       rw (k, did .0) (sym (rw (good-formed bs g, entered .0, entered .1)))
 
--- The answer and every byte are one function of what was lent and asked
-
-pub determined : (bs : List ℕ) (n : ℕ) (a b : ℤ) (r r′ : ℕ) (x x′ : List ℕ)
-    → (r ≡ answerOf bs n a b) × (x ≡ bytesAfter bs n a b) → (r′ ≡ answerOf bs n a b) × (x′ ≡ bytesAfter bs n a b) → (r ≡ r′) × (x ≡ x′)
-determined bs n a b r r′ x x′ p q = (p .0 ∙ sym (q .0), p .1 ∙ sym (q .1))
+-- What the other two entries answer and leave is one function of what was lent
 
 pub boot-determined : (bs : List ℕ) (r r′ : ℕ) (x x′ : List ℕ) → (r ≡ bootAnswer bs) × (x ≡ booted bs) → (r′ ≡ bootAnswer bs) × (x′ ≡ booted bs) → (r ≡ r′) × (x ≡ x′)
 boot-determined bs r r′ x x′ p q = (p .0 ∙ sym (q .0), p .1 ∙ sym (q .1))

@@ -1,22 +1,19 @@
 // One call.
+use crate::answer::UNKNOWN;
 use crate::answer::pack;
 use kernel::enter;
 use rules::Answer;
 use soundness::check::is_sound;
 use soundness::running::current;
-ghost use mathlib.Core.Path.{_≡_};
-ghost use Rattle.cottonsedge.specs.Entries.{answerOf, bytesAfter};
-
-// The process told of tables that aren't sound.
-const NOBODY: u16 = 255;
+ghost use Rattle.cottonsedge.specs.Entries.{Called};
 
 // The answer, with the tables changed where they stand. Tables that aren't sound are answered 15 and not a byte of them changes, nor at any other refusal.
 #[no_mangle]
 pub extern "C" fn cottonsedge_call(tables: &mut [u8], call: u8, a: i32, b: i32) -> u64
-    ensures { λ r. ⌜ (r ≡ answerOf (now (tables .entry)) call a b) × (now (tables .exit) ≡ bytesAfter (now (tables .entry)) call a b) ⌝ }
+    ensures { λ r. ⌜ Called (now (tables .entry)) call a b r (now (tables .exit)) ⌝ }
 {
     if !is_sound(tables) {
-        return pack(Answer::Refused(15), NOBODY);
+        return pack(Answer::Refused(15), UNKNOWN as u16);
     }
     let answer = enter::call(tables, call, a, b);
     let running = current(tables);

@@ -4,4 +4,3 @@ pub mod CallAccounts
 pub mod Runs
 pub mod Demand
 pub mod Edges
-pub mod ShutOut

@@ -1,3 +1,4 @@
+pub mod Seen
 pub mod Schedule
 pub mod Answers
 pub mod Calls

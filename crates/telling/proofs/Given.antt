@@ -32,7 +32,7 @@ use Rattle.rules.specs.declared.Outcome.{Outcome}
 use Rattle.rules.specs.Answers.{Check, _when_, refused, unless}
 use Rattle.rules.specs.Calls.{Call, Wait, Signal, MakeSemaphore, Delete, Reset, MakeProcess, Resume, Suspend, Kill, Yield, Count, below0, outside, largest, noSemaphore, notUsed, noCount, noProcess, notLive, nullProcess, freeSemaphores, freeSlots, checks, plain, deed, finish, step}
 use Rattle.rules.specs.Enter.{Form, neither, first, both, formOf, isZero, spare, callOf, called, numbered, enter}
-use Rattle.telling.specs.Reasons.{Reason, Exactly, FirstOf, noSuchSemaphore, semaphoreFree, countBelow0, allUsed, countLargest, noSuchProcess, slotFree, allLive, notSuspended, notRunnable, process0, process0Waits, noSuchPriority, noSuchCall, spareArgument, notSound, ownReasons, callReasons, reasons}
+use Rattle.telling.specs.Reasons.{Reason, Exactly, FirstOf, noSuchSemaphore, semaphoreFree, countBelow0, allUsed, countLargest, noSuchProcess, slotFree, allLive, notSuspended, notRunnable, process0, process0Waits, noSuchPriority, noSuchCall, spareArgument, notSound, ownReasons, callReasons, numberedReasons, reasons}
 use Rattle.rules.proofs.Numbers.{number-known, number-past}
 use Rattle.rules.proofs.Refusals.{Ranged, finish-done, numbered-ranged, numbered-never-12}
 
@@ -175,7 +175,7 @@ module _ {t : Tables} (S : Sound t) (F : CountsFit t) where
   unfolding step
   step-exactly c n = rw (append-nil (ownReasons t c)) at (unless-exactly t (checks t c) (ownReasons t c) [] (finish (deed t c)) n (checks-given S F c) (finish-done (deed t c) n, λ w. absurd w))
 
-  numbered-exactly : (m : ℕ) (a b : ℤ) (n : ℕ) → (numbered t m a b .answer ≡ Refused n) ↔ FirstOf (noSuchCall m ∷ callReasons t (formOf m) a b) n
+  pub numbered-exactly : (m : ℕ) (a b : ℤ) (n : ℕ) → (numbered t m a b .answer ≡ Refused n) ↔ FirstOf (numberedReasons t m a b) n
   unfolding numbered
   numbered-exactly m a b n = go (formOf m) refl
     where

@@ -6,4 +6,3 @@ pub mod Rescheduling
 pub mod Others
 pub mod Telling
 pub mod Told
-pub mod Session

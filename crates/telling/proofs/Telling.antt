@@ -22,7 +22,8 @@ use Rattle.tables.proofs.Sentences.{current-only, current-unique}
 use Rattle.rules.specs.declared.Answer.the-variants.{Done}
 use Rattle.rules.specs.declared.Outcome.{Outcome}
 use Rattle.rules.specs.Calls.{Call, MakeSemaphore, MakeProcess, Suspend, Kill, outside, freeSemaphores, freeSlots, stop, uncounted, Accepted, deed, finish, step}
-use Rattle.telling.specs.Telling.{seen, Seats, seats, Changes, Keeps}
+use Rattle.rules.specs.Seen.{seen}
+use Rattle.telling.specs.Telling.{Seats, seats, Changes, Keeps}
 use Rattle.rules.proofs.Resched.{Settled, Prepared}
 use Rattle.rules.proofs.Effects.{Shows, Effect, settled-shows}
 use Rattle.rules.proofs.Slots.{suspend-prepared, free-prepared}

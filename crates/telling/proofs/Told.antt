@@ -23,7 +23,8 @@ use Rattle.rules.specs.declared.Answer.the-variants.{Done}
 use Rattle.rules.specs.declared.Outcome.{Outcome}
 use Rattle.rules.specs.Answers.{done}
 use Rattle.rules.specs.Calls.{Call, Wait, Signal, MakeSemaphore, Delete, Reset, MakeProcess, Resume, Suspend, Kill, Yield, Count, below0, freeSemaphores, freeSlots, Accepted, step}
-use Rattle.telling.specs.Telling.{MakesNothing, Spares, PassesBy, inUse, notInUse, seats, seated, behind, headRuns, reseat, released, Changes, Keeps}
+use Rattle.rules.specs.Seen.{inUse, notInUse}
+use Rattle.telling.specs.Telling.{MakesNothing, Spares, PassesBy, seats, seated, behind, headRuns, reseat, released, Changes, Keeps}
 use Rattle.rules.proofs.WaitSignal.{blocks-not-null}
 use Rattle.rules.proofs.Slots.{kill-prepared}
 use Rattle.rules.proofs.Found.{slot-found, semaphore-found}

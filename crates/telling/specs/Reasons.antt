@@ -118,11 +118,15 @@ ownReasons t (Kill a) = noSuchProcess a ∷ process0 a ∷ slotFree t a ∷ []
 ownReasons t Yield = []
 ownReasons t (Count a) = noSuchSemaphore a ∷ semaphoreFree t a ∷ []
 
--- of a number that has a call
+-- of a number that has a call: 14, then the call's own
 abbrev pub callReasons : Tables → Option Form → ℤ → ℤ → List Reason
 callReasons t none a b = []
 callReasons t (some f) a b = spareArgument f a b ∷ ownReasons t (callOf f a b)
 
--- 15, 13, 14, then the call's own
+-- of sound tables: 13 stands before them
+abbrev pub numberedReasons : Tables → ℕ → ℤ → ℤ → List Reason
+numberedReasons t n a b = noSuchCall n ∷ callReasons t (formOf n) a b
+
+-- 15 stands before all
 abbrev pub reasons : Tables → ℕ → ℤ → ℤ → List Reason
-reasons t n a b = notSound t ∷ noSuchCall n ∷ callReasons t (formOf n) a b
+reasons t n a b = notSound t ∷ numberedReasons t n a b

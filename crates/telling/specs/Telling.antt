@@ -1,6 +1,6 @@
 -- Words to tell what a call leaves: how each semaphore is seen, who is ready in which order, and who runs.
 use Prim.Native.Nat.{ℕ, _≤_, _<_}
-use mathlib.Core.Bool.{Bool, true, false}
+use mathlib.Core.Bool.{true}
 use mathlib.Core.List.{List, [], _∷_, _++_}
 use mathlib.Core.Logic.{_≢_}
 use mathlib.Core.Path.{_≡_}
@@ -8,9 +8,10 @@ use lib.Dec.{ltb}
 use lib.IntN.{ℤ, pos}
 use Rattle.lists.specs.Lists.{if_then_else_, putBefore, times, isEmpty, first}
 use Rattle.tables.specs.declared.Tables.{Tables}
-use Rattle.tables.specs.Readers.{priorityOf, isUsed, countOf, readyList, queue, currents}
+use Rattle.tables.specs.Readers.{priorityOf, readyList, queue, currents}
 use Rattle.rules.specs.declared.Answer.the-variants.{Done}
 use Rattle.rules.specs.declared.Outcome.{Outcome}
+use Rattle.rules.specs.Seen.{Seen, seen}
 use Rattle.rules.specs.Answers.{Check, _when_, NoneHolds}
 use Rattle.rules.specs.Calls.{Call, MakeSemaphore, MakeProcess, Resume, Suspend, Kill, freeSlots}
 
@@ -36,21 +37,6 @@ pub record PassesBy (t : Tables) (c : Call) (x : ℕ) : Type 0 where
   pub spares : Spares t c x
   pub unresumed : c ≢ Resume (pos x)
   pub unsuspended : c ≢ Suspend (pos x)
-
--- how a semaphore is seen
-pub record Seen : Type 0 where
-  pub used : Bool
-  pub count : ℤ
-  pub waiters : List ℕ
-
-abbrev pub seen : Tables → ℕ → Seen
-seen t s = record { used = isUsed t s; count = countOf t s; waiters = queue t s }
-
-abbrev pub inUse : ℤ → List ℕ → Seen
-inUse c q = record { used = true; count = c; waiters = q }
-
-abbrev pub notInUse : Seen
-notInUse = record { used = false; count = pos 0; waiters = [] }
 
 -- who is ready, in order, and who is current
 pub record Seats : Type 0 where

@@ -14,6 +14,9 @@ use Rattle.cottonsedge.proofs.call.cottonsedge_call.Tie as tie
 is-sound-requires : tie.Need-is-sound-requires
 is-sound-requires c κs = search needs
 
+cast-pack : tie.Need-cast-pack
+cast-pack c = search needs
+
 pack-requires : tie.Need-pack-requires
 pack-requires c κs = search needs
 
@@ -24,7 +27,7 @@ returns : tie.Need-returns
 returns c =
     let bs = c .before .before .before .before .before .args .tables .now in
     let g : good bs ≡ false = sym (c .before .before .is-sound .ensures) ∙ not-true _ (c .before .if1 .taken) in
-    (c .pack .ensures ∙ refused-answer bs _ _ _ g, refused-bytes bs _ _ _ g (λ i. c .before .before .before .before .slice-known .given i .fits))
+    record { answer = c .pack .ensures ∙ refused-answer bs _ _ _ g; bytes = refused-bytes bs _ _ _ g (λ i. c .before .before .before .before .slice-known .given i .fits) }
 
 call-requires : tie.Need-call-requires
 call-requires c κs =
@@ -49,13 +52,14 @@ returns-2 c =
     let g : good bs ≡ true = sym (c .before .before .before .before .before .before .before .before .is-sound .ensures) ∙ not-false _ (c .before .before .before .before .before .before .before .if1 .left) in
     let byte : (i : ℕ) → getD bs i 0 < 256 = λ i. c .before .before .before .before .before .before .before .before .before .before .slice-known .given i .fits in
     let d = handed-on (c .before .before .before .before .before .before .before .before .before .before .before .args .call) (c .before .before .before .before .before .before .before .before .before .before .before .args .a) (c .before .before .before .before .before .before .before .before .before .before .before .args .b) bs (c .before .before .before .before .before .call .last .0) (c .before .before .before .before .before .call .result) (c .before .before .before .before .before .before .before .before .before .before .before .fits .a) (c .before .before .before .before .before .before .before .before .before .before .before .fits .b) (c .before .before .before .before .before .call .ensures) in
-    (c .pack2 .ensures ∙ called-answer bs _ _ _ _ _ byte g d _ (c .before .current .ensures), called-bytes bs _ _ _ _ _ byte g d)
+    record { answer = c .pack2 .ensures ∙ called-answer bs _ _ _ _ _ byte g d _ (c .before .current .ensures); bytes = called-bytes bs _ _ _ _ _ byte g d }
 
 pub cottonsedge-call-spec : {M : Type 1} → statement M
 cottonsedge-call-spec =
     tie.close
     (tie.spec
     is-sound-requires
+    cast-pack
     pack-requires
     same-length
     returns

@@ -19,7 +19,7 @@ enum-known-target-2 : tie.Need-enum-known-target-2
 enum-known-target-2 c = search needs
 
 count-requires : tie.Need-count-requires
-count-requires c κs = (search needs, (chosen _ _ _ _ (c .before .before .before .before .before .fits .a) (c .before .target2 .given .1) (c .before .before .before .used-semaphore .ensures)) .1)
+count-requires c κs = let below = (chosen _ _ _ _ (c .before .before .before .before .before .fits .a) (c .before .target2 .given .1) (c .before .before .before .used-semaphore .ensures)) .1 in search needs
 
 returns : tie.Need-returns
 returns c = semaphore-refused (c .before .before .before .before .before .args .a) _ _ (chosen _ _ _ _ (c .before .before .before .before .before .fits .a) (c .before .target .given .1) (c .before .before .before .used-semaphore .ensures)) (Count (c .before .before .before .before .before .args .a)) (λ t. refl)
