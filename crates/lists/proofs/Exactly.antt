@@ -1,12 +1,12 @@
 -- Tests that hold exactly when what they test is so. Assumes nothing.
-use Prim.Native.Nat.{_<_, ℕ}
+use Prim.Native.Nat.{ℕ}
 use mathlib.Core.Bool.{Bool, _&&_, _||_, false, false≢true, not, true}
 use mathlib.Core.Logic.{_⊎_, _↔_, inl, inr, ⊎-elim}
 use mathlib.Core.Path.{_≡_, refl}
-use lib.Dec.{T, eqb, ltb}
+use lib.Dec.{T, eqb}
 use lib.IntN.{ℤ}
 use lib.Signed.{_<ℤ_, _≤ℤ_, leZ, ltZ}
-use borrow.Author.Tests.{eq-eqb, eqb-true, lt-ltb, ltb-true}
+use borrow.Author.Tests.{eq-eqb, eqb-true}
 
 -- the test b holds exactly when P is so
 abbrev pub Tests : Bool → Type 0 → Type 0
@@ -27,9 +27,6 @@ tests-not false p = (λ e w. false≢true (p .1 w), λ n. refl)
 
 pub tests-eqb : (m n : ℕ) → Tests (eqb m n) (m ≡ n)
 tests-eqb m n = (eqb-true m n, eq-eqb m n)
-
-pub tests-ltb : (m n : ℕ) → Tests (ltb m n) (m < n)
-tests-ltb m n = (ltb-true m n, lt-ltb m n)
 
 tests-T : (b : Bool) → Tests b (T b)
 tests-T true = (λ e. tt, λ w. refl)
