@@ -32,7 +32,7 @@ use Rattle.rules.specs.Enter.{Form, forms, callOf, numbered}
 use Rattle.rules.proofs.Resched.{Settled}
 use Rattle.rules.proofs.Effects.{Effect, settled-shows}
 use Rattle.rules.proofs.Found.{slot-found, semaphore-found}
-use Rattle.rules.proofs.Refusals.{step-cases, branch, numbered-cases, AllForms, form-has}
+use Rattle.rules.proofs.Refusals.{step-cases, branch, numbered-cases, AllFrom, number-has}
 use Rattle.rules.proofs.Changes.{Change, untouched, lowered, raised, rewritten, loses, changeOf, Loses, Becomes, Allowed, call-changes}
 
 small : (n : ℕ) → n < 2147483648 → SFits w32 (pos n)
@@ -116,7 +116,7 @@ module _ {t : Tables} (S : Sound t) (F : CountsFit t) where
   abbrev SetsFit : Form → Type 0
   SetsFit f = (a b : ℤ) → SFits w32 a → SFits w32 b → SFits w32 (setsCount (changeOf t (callOf f a b)))
 
-  sets-fit : AllForms SetsFit forms
+  sets-fit : AllFrom (λ n. SetsFit) 1 forms
   sets-fit = (nothing, (nothing, (λ a b f g. f, (nothing, (λ a b f g. g, (nothing, (nothing, (nothing, (nothing, (nothing, (nothing, tt)))))))))))
     where
       nothing : (a b : ℤ) → SFits w32 a → SFits w32 b → SFits w32 (pos 0)
@@ -125,4 +125,4 @@ module _ {t : Tables} (S : Sound t) (F : CountsFit t) where
   pub fits-numbered : (n : ℕ) (a b : ℤ) → SFits w32 a → SFits w32 b → CountsFit (numbered t n a b .tables) × SFits w32 (valueOf (numbered t n a b .answer))
   fits-numbered n a b f g =
       numbered-cases t (λ o. CountsFit (o .tables) × SFits w32 (valueOf (o .answer))) refused-fit n a b
-      (λ x e. fits-step (callOf x a b) (form-has SetsFit sets-fit n x e a b f g))
+      (λ x e. fits-step (callOf x a b) (number-has (λ n. SetsFit) sets-fit n x e a b f g))

@@ -1,5 +1,5 @@
 -- A call is refused by the first check that holds, and then nothing changes; or no check holds, and it is done. Assumes nothing.
-use Prim.Native.Nat.{_≤_, zero, suc, ℕ}
+use Prim.Native.Nat.{_+_, _≤_, zero, suc, ℕ}
 use native.Mathlib.Omega.{arith}
 use mathlib.Core.Bool.{Bool, _&&_, false, false≢true, not, true}
 use mathlib.Core.List.{List, [], _∷_}
@@ -65,20 +65,20 @@ numbered-cases t P ref n a b call = go (formOf n) refl
 pub numbered-refused : (t : Tables) (n : ℕ) (a b : ℤ) (m : ℕ) → numbered t n a b .answer ≡ Refused m → numbered t n a b .tables ≡ t
 numbered-refused t n a b m = numbered-cases t (λ o. o .answer ≡ Refused m → o .tables ≡ t) (λ i e. refl) n a b (λ f k. step-refused t (callOf f a b) m)
 
--- what is true of each line of the list is true of the form of a number
+-- what is true of each line of the list, from 1 on, is true of a number and its form
 
-abbrev pub AllForms : (Form → Type 0) → List Form → Type 0
-AllForms P [] = Unit
-AllForms P (f ∷ fs) = P f × AllForms P fs
+abbrev pub AllFrom : (ℕ → Form → Type 0) → ℕ → List Form → Type 0
+AllFrom P n [] = Unit
+AllFrom P n (f ∷ fs) = P n f × AllFrom P (suc n) fs
 
-line-has : (P : Form → Type 0) (fs : List Form) → AllForms P fs → (n : ℕ) (f : Form) → lineOf fs n ≡ some f → P f
-line-has P [] h n f e = absurd (Option·none-ne-some f e)
-line-has P (g ∷ gs) h zero f e = subst P (Option·some-injective g f e) (h .0)
-line-has P (g ∷ gs) h (suc n) f e = line-has P gs (h .1) n f e
+line-has : (P : ℕ → Form → Type 0) (n : ℕ) (fs : List Form) → AllFrom P n fs → (i : ℕ) (f : Form) → lineOf fs i ≡ some f → (m : ℕ) → n + i ≡ m → P m f
+line-has P n [] h i f e m d = absurd (Option·none-ne-some f e)
+line-has P n (g ∷ gs) h zero f e m d = let k : n ≡ m = omega arith in subst (P m) (Option·some-injective g f e) (rw (← k) (h .0))
+line-has P n (g ∷ gs) h (suc i) f e m d = line-has P (suc n) gs (h .1) i f e m (omega arith)
 
-pub form-has : (P : Form → Type 0) → AllForms P forms → (n : ℕ) (f : Form) → formOf n ≡ some f → P f
-form-has P h zero f e = absurd (Option·none-ne-some f e)
-form-has P h (suc n) f e = line-has P forms h n f e
+pub number-has : (P : ℕ → Form → Type 0) → AllFrom P 1 forms → (n : ℕ) (f : Form) → formOf n ≡ some f → P n f
+number-has P h zero f e = absurd (Option·none-ne-some f e)
+number-has P h (suc n) f e = line-has P 1 forms h n f e (suc n) (omega arith)
 
 -- Every refusal of a call on sound tables has one of the paper's numbers: 1 to 14, and never 12, which is for a line of the bench
 

@@ -11,7 +11,7 @@ use lib.IntN.{ℤ, pos, negsuc, natAbs}
 use lib.Signed.{_≤ℤ_, _<ℤ_, leZ, ltZ}
 use mir.Syntax.{w32}
 use mir.Val.{SFits}
-use borrow.Author.Tests.{eqb-true, eq-eqb, leb-true, ltb-true}
+use borrow.Author.Tests.{eqb-true, eqb-false, eq-eqb, leb-true, ltb-true}
 use Rattle.lists.specs.Lists.{if_then_else_, isEmpty}
 use Rattle.lists.proofs.Bools.{not-true, not-false, split, either, below?}
 use Rattle.lists.proofs.Exactly.{Tests, tests-or, tests-and, tests-not, tests-eqb, tests-ltZ, tests-leZ}
@@ -30,11 +30,11 @@ use Rattle.tables.proofs.TestLaws.{checked-sound, sound-checked}
 use Rattle.rules.specs.declared.Answer.the-variants.{Refused}
 use Rattle.rules.specs.declared.Outcome.{Outcome}
 use Rattle.rules.specs.Answers.{Check, _when_, refused, unless}
-use Rattle.rules.specs.Calls.{Call, Wait, Signal, MakeSemaphore, Delete, Reset, MakeProcess, Resume, Suspend, Kill, Yield, Count, below0, outside, largest, noSemaphore, notUsed, noCount, noProcess, notLive, nullProcess, freeSemaphores, freeSlots, checks, plain, deed, finish, step}
-use Rattle.rules.specs.Enter.{Form, neither, first, both, formOf, isZero, spare, callOf, called, numbered, enter}
+use Rattle.rules.specs.Calls.{Call, Wait, Signal, MakeSemaphore, Delete, Reset, MakeProcess, Resume, Suspend, Kill, Yield, Count, below0, outside, largest, noSemaphore, notUsed, noCount, noProcess, notLive, nullProcess, freeSemaphores, freeSlots, checks, deed, finish, step}
+use Rattle.rules.specs.Enter.{Form, forms, formOf, isZero, spare, callOf, called, numbered, enter}
 use Rattle.telling.specs.Reasons.{Reason, Exactly, FirstOf, noSuchSemaphore, semaphoreFree, countBelow0, allUsed, countLargest, noSuchProcess, slotFree, allLive, notSuspended, notRunnable, process0, process0Waits, noSuchPriority, noSuchCall, spareArgument, notSound, ownReasons, callReasons, numberedReasons, reasons}
 use Rattle.rules.proofs.Numbers.{number-known, number-past}
-use Rattle.rules.proofs.Refusals.{Ranged, finish-done, numbered-ranged, numbered-never-12}
+use Rattle.rules.proofs.Refusals.{Ranged, finish-done, AllFrom, number-has, numbered-ranged, numbered-never-12}
 
 -- Number by number
 
@@ -130,10 +130,41 @@ tests-zero (negsuc n) = (λ e. absurd (true≢false (sym e)), ap isZero)
 tests-used : (a : ℤ) → Tests (not (isZero a)) (a ≢ pos 0)
 tests-used a = tests-not (isZero a) (tests-zero a)
 
-pub given-14 : (f : Form) (a b : ℤ) → Exactly (14 when spare f a b) (spareArgument f a b)
-given-14 (neither c) a b = (refl, tests-or (not (isZero a)) (not (isZero b)) (tests-used a) (tests-used b))
-given-14 (first c) a b = (refl, tests-used b)
-given-14 (both c) a b = (refl, (λ e. true≢false (sym e), λ w. absurd w))
+module _ (a b : ℤ) where
+  abbrev Spare : ℕ → Form → Type 0
+  Spare n f = Tests (spare f a b) (spareArgument n a b .holds)
+
+  second : (n : ℕ) → eqb n 5 ≡ false → eqb n 10 ≡ false → Tests (not (isZero b)) (spareArgument n a b .holds)
+  second n h k = (λ e. inl (tests-used b .0 e, eqb-false n 5 h), ⊎-elim (λ w. tests-used b .1 (w .0)) (λ w. absurd (eqb-false n 10 k (w .1))))
+
+  none-spare : Tests false (spareArgument 5 a b .holds)
+  none-spare = (λ e. absurd (true≢false (sym e)), ⊎-elim (λ w. absurd (w .1 refl)) (λ w. let z = w .1 in absurd (omega arith)))
+
+  both-spare : Tests (not (isZero a) || not (isZero b)) (spareArgument 10 a b .holds)
+  both-spare =
+      let or = tests-or (not (isZero a)) (not (isZero b)) (tests-used a) (tests-used b) in
+      (λ e. ⊎-elim (λ w. inr (w, refl)) (λ w. inl (w, λ z. omega arith)) (or .0 e), λ w. or .1 (⊎-elim (λ v. inr (v .0)) (λ v. inl (v .0)) w))
+
+  spares : AllFrom Spare 1 forms
+  spares = (
+    second 1 refl refl,
+    (
+      second 2 refl refl,
+      (
+        second 3 refl refl,
+        (
+          second 4 refl refl,
+          (
+            none-spare,
+            (second 6 refl refl, (second 7 refl refl, (second 8 refl refl, (second 9 refl refl, (both-spare, (second 11 refl refl, tt)))))),
+          ),
+        ),
+      ),
+    ),
+  )
+
+  pub given-14 : (n : ℕ) (f : Form) → formOf n ≡ some f → Exactly (14 when spare f a b) (spareArgument n a b)
+  given-14 n f e = (refl, number-has Spare spares n f e)
 
 -- A call's checks are its reasons, in the same order
 
@@ -179,11 +210,11 @@ module _ {t : Tables} (S : Sound t) (F : CountsFit t) where
   unfolding numbered
   numbered-exactly m a b n = go (formOf m) refl
     where
-      go : (f : Option Form) → formOf m ≡ f → (called t f a b .answer ≡ Refused n) ↔ FirstOf (noSuchCall m ∷ callReasons t f a b) n
-      go none e = check-exactly t true 13 n (finish (plain (pos 0) t)) (λ k. given-13 m .0 e, λ w. refl) (finish-done (plain (pos 0) t) n, λ w. absurd w)
+      go : (f : Option Form) → formOf m ≡ f → (called t f a b .answer ≡ Refused n) ↔ FirstOf (noSuchCall m ∷ spareArgument m a b ∷ callReasons t f a b) n
+      go none e = (λ r. inl (cc, given-13 m .0 e), ⊎-elim (λ w. ap Refused (w .0)) (λ w. absurd (w .0 (given-13 m .0 e))))
       go (some f) e =
           check-exactly t false 13 n (called t (some f) a b) (λ k. absurd (true≢false (sym k)), λ w. absurd (Option·none-ne-some f (sym (given-13 m .1 w) ∙ e)))
-          (unless-exactly t ((14 when spare f a b) ∷ []) (spareArgument f a b ∷ []) (ownReasons t (callOf f a b)) (step t (callOf f a b)) n (given-14 f a b, tt) (step-exactly (callOf f a b) n))
+          (unless-exactly t ((14 when spare f a b) ∷ []) (spareArgument m a b ∷ []) (ownReasons t (callOf f a b)) (step t (callOf f a b)) n (given-14 a b m f e, tt) (step-exactly (callOf f a b) n))
 
 pub given-15 : (t : Tables) (m : ℕ) (a b : ℤ) → (enter t m a b .outcome .answer ≡ Refused 15) ↔ notSound t .holds
 unfolding enter

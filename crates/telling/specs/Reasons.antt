@@ -14,7 +14,7 @@ use Rattle.tables.specs.Readers.{stateOf, isUsed, countOf, currentOf}
 use Rattle.tables.specs.Sound.{Sound}
 use Rattle.rules.specs.Answers.{Check}
 use Rattle.rules.specs.Calls.{Call, Wait, Signal, MakeSemaphore, Delete, Reset, MakeProcess, Resume, Suspend, Kill, Yield, Count}
-use Rattle.rules.specs.Enter.{Form, neither, first, both, formOf, callOf}
+use Rattle.rules.specs.Enter.{Form, formOf, callOf}
 
 -- a refusal number, and when it is given
 pub record Reason : Type 1 where
@@ -92,11 +92,9 @@ noSuchPriority a = 11 given (a <ℤ pos 1) ⊎ (pos priorityLimit <ℤ a)
 abbrev pub noSuchCall : ℕ → Reason
 noSuchCall n = 13 given (n < 1) ⊎ (11 < n)
 
--- 14: an argument the call doesn't use isn't 0
-abbrev pub spareArgument : Form → ℤ → ℤ → Reason
-spareArgument (neither c) a b = 14 given (a ≢ pos 0) ⊎ (b ≢ pos 0)
-spareArgument (first c) a b = 14 given b ≢ pos 0
-spareArgument (both c) a b = 14 given ⊥
+-- 14: an argument the call doesn't use isn't 0: the second of every call but reset, 05, and the first of yield, 0a
+abbrev pub spareArgument : ℕ → ℤ → ℤ → Reason
+spareArgument n a b = 14 given ((b ≢ pos 0) × (n ≢ 5)) ⊎ ((a ≢ pos 0) × (n ≡ 10))
 
 -- 15: the tables aren't sound
 abbrev pub notSound : Tables → Reason
@@ -118,15 +116,15 @@ ownReasons t (Kill a) = noSuchProcess a ∷ process0 a ∷ slotFree t a ∷ []
 ownReasons t Yield = []
 ownReasons t (Count a) = noSuchSemaphore a ∷ semaphoreFree t a ∷ []
 
--- of a number that has a call: 14, then the call's own
+-- of a number that has a call
 abbrev pub callReasons : Tables → Option Form → ℤ → ℤ → List Reason
 callReasons t none a b = []
-callReasons t (some f) a b = spareArgument f a b ∷ ownReasons t (callOf f a b)
+callReasons t (some f) a b = ownReasons t (callOf f a b)
 
--- of sound tables: 13 stands before them
+-- of sound tables: 13, 14, then the call's own
 abbrev pub numberedReasons : Tables → ℕ → ℤ → ℤ → List Reason
-numberedReasons t n a b = noSuchCall n ∷ callReasons t (formOf n) a b
+numberedReasons t n a b = noSuchCall n ∷ spareArgument n a b ∷ callReasons t (formOf n) a b
 
--- 15 stands before all
+-- 15 stands before them
 abbrev pub reasons : Tables → ℕ → ℤ → ℤ → List Reason
 reasons t n a b = notSound t ∷ numberedReasons t n a b
