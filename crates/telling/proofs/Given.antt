@@ -11,7 +11,7 @@ use lib.IntN.{ℤ, pos, negsuc, natAbs}
 use lib.Signed.{_≤ℤ_, _<ℤ_, leZ, ltZ}
 use mir.Syntax.{w32}
 use mir.Val.{SFits}
-use borrow.Author.Tests.{eqb-true, eqb-false, eq-eqb, leb-true, ltb-true}
+use borrow.Author.Tests.{eqb-true, eq-eqb, leb-true, ltb-true}
 use Rattle.lists.specs.Lists.{if_then_else_, isEmpty}
 use Rattle.lists.proofs.Bools.{not-true, not-false, split, either, below?}
 use Rattle.lists.proofs.Exactly.{Tests, tests-or, tests-and, tests-not, tests-eqb, tests-ltZ, tests-leZ}
@@ -32,7 +32,7 @@ use Rattle.rules.specs.declared.Outcome.{Outcome}
 use Rattle.rules.specs.Answers.{Check, _when_, refused, unless}
 use Rattle.rules.specs.Calls.{Call, Wait, Signal, MakeSemaphore, Delete, Reset, MakeProcess, Resume, Suspend, Kill, Yield, Count, below0, outside, largest, noSemaphore, notUsed, noCount, noProcess, notLive, nullProcess, freeSemaphores, freeSlots, checks, deed, finish, step}
 use Rattle.rules.specs.Enter.{Form, forms, formOf, isZero, spare, callOf, called, numbered, enter}
-use Rattle.telling.specs.Reasons.{Reason, Exactly, FirstOf, noSuchSemaphore, semaphoreFree, countBelow0, allUsed, countLargest, noSuchProcess, slotFree, allLive, notSuspended, notRunnable, process0, process0Waits, noSuchPriority, noSuchCall, spareArgument, notSound, ownReasons, callReasons, numberedReasons, reasons}
+use Rattle.telling.specs.Reasons.{Reason, Exactly, FirstOf, noSuchSemaphore, semaphoreFree, countBelow0, allUsed, countLargest, noSuchProcess, slotFree, allLive, notSuspended, notRunnable, process0, process0Waits, noSuchPriority, noSuchCall, argumentsOf, spareArgument, notSound, ownReasons, callReasons, numberedReasons, reasons}
 use Rattle.rules.proofs.Numbers.{number-known, number-past}
 use Rattle.rules.proofs.Refusals.{Ranged, finish-done, AllFrom, number-has, numbered-ranged, numbered-never-12}
 
@@ -130,38 +130,24 @@ tests-zero (negsuc n) = (λ e. absurd (true≢false (sym e)), ap isZero)
 tests-used : (a : ℤ) → Tests (not (isZero a)) (a ≢ pos 0)
 tests-used a = tests-not (isZero a) (tests-zero a)
 
+-- by how many arguments each line of the list uses
 module _ (a b : ℤ) where
   abbrev Spare : ℕ → Form → Type 0
   Spare n f = Tests (spare f a b) (spareArgument n a b .holds)
 
-  second : (n : ℕ) → eqb n 5 ≡ false → eqb n 10 ≡ false → Tests (not (isZero b)) (spareArgument n a b .holds)
-  second n h k = (λ e. inl (tests-used b .0 e, eqb-false n 5 h), ⊎-elim (λ w. tests-used b .1 (w .0)) (λ w. absurd (eqb-false n 10 k (w .1))))
+  two : (n : ℕ) → argumentsOf n ≡ 2 → Tests false (spareArgument n a b .holds)
+  two n k = rw k (λ e. absurd (true≢false (sym e)), ⊎-elim (λ w. let z = w .1 in absurd (omega arith)) (λ w. let z = w .1 in absurd (omega arith)))
 
-  none-spare : Tests false (spareArgument 5 a b .holds)
-  none-spare = (λ e. absurd (true≢false (sym e)), ⊎-elim (λ w. absurd (w .1 refl)) (λ w. let z = w .1 in absurd (omega arith)))
+  one : (n : ℕ) → argumentsOf n ≡ 1 → Tests (not (isZero b)) (spareArgument n a b .holds)
+  one n k = rw k (λ e. inl (tests-used b .0 e, omega arith), ⊎-elim (λ w. tests-used b .1 (w .0)) (λ w. let z = w .1 in absurd (omega arith)))
 
-  both-spare : Tests (not (isZero a) || not (isZero b)) (spareArgument 10 a b .holds)
-  both-spare =
+  no : (n : ℕ) → argumentsOf n ≡ 0 → Tests (not (isZero a) || not (isZero b)) (spareArgument n a b .holds)
+  no n k =
       let or = tests-or (not (isZero a)) (not (isZero b)) (tests-used a) (tests-used b) in
-      (λ e. ⊎-elim (λ w. inr (w, refl)) (λ w. inl (w, λ z. omega arith)) (or .0 e), λ w. or .1 (⊎-elim (λ v. inr (v .0)) (λ v. inl (v .0)) w))
+      rw k (λ e. ⊎-elim (λ w. inr (w, omega arith)) (λ w. inl (w, omega arith)) (or .0 e), λ w. or .1 (⊎-elim (λ v. inr (v .0)) (λ v. inl (v .0)) w))
 
   spares : AllFrom Spare 1 forms
-  spares = (
-    second 1 refl refl,
-    (
-      second 2 refl refl,
-      (
-        second 3 refl refl,
-        (
-          second 4 refl refl,
-          (
-            none-spare,
-            (second 6 refl refl, (second 7 refl refl, (second 8 refl refl, (second 9 refl refl, (both-spare, (second 11 refl refl, tt)))))),
-          ),
-        ),
-      ),
-    ),
-  )
+  spares = (one 1 refl, (one 2 refl, (one 3 refl, (one 4 refl, (two 5 refl, (one 6 refl, (one 7 refl, (one 8 refl, (one 9 refl, (no 10 refl, (one 11 refl, tt)))))))))))
 
   pub given-14 : (n : ℕ) (f : Form) → formOf n ≡ some f → Exactly (14 when spare f a b) (spareArgument n a b)
   given-14 n f e = (refl, number-has Spare spares n f e)

@@ -5,8 +5,10 @@ use mathlib.Core.List.{List, [], _∷_}
 use mathlib.Core.Logic.{_≢_, _↔_, _⊎_}
 use mathlib.Core.Option.{Option, none, some}
 use mathlib.Core.Path.{_≡_}
+use lib.Dec.{eqb}
 use lib.IntN.{ℤ, pos, natAbs}
 use lib.Signed.{_≤ℤ_, _<ℤ_}
+use Rattle.lists.specs.Lists.{if_then_else_}
 use Rattle.tables.specs.declared.State.the-variants.{Free, Current, Ready, Suspended}
 use Rattle.tables.specs.declared.Tables.{Tables}
 use Rattle.tables.specs.Limits.{processLimit, semaphoreLimit, priorityLimit}
@@ -92,9 +94,13 @@ noSuchPriority a = 11 given (a <ℤ pos 1) ⊎ (pos priorityLimit <ℤ a)
 abbrev pub noSuchCall : ℕ → Reason
 noSuchCall n = 13 given (n < 1) ⊎ (11 < n)
 
--- 14: an argument the call doesn't use isn't 0: the second of every call but reset, 05, and the first of yield, 0a
+-- how many arguments the call with this number uses: reset, 05, both, yield, 0a, none, the others the first
+abbrev pub argumentsOf : ℕ → ℕ
+argumentsOf n = if eqb n 5 then 2 else if eqb n 10 then 0 else 1
+
+-- 14: an argument the call doesn't use isn't 0
 abbrev pub spareArgument : ℕ → ℤ → ℤ → Reason
-spareArgument n a b = 14 given ((b ≢ pos 0) × (n ≢ 5)) ⊎ ((a ≢ pos 0) × (n ≡ 10))
+spareArgument n a b = 14 given ((b ≢ pos 0) × (argumentsOf n < 2)) ⊎ ((a ≢ pos 0) × (argumentsOf n < 1))
 
 -- 15: the tables aren't sound
 abbrev pub notSound : Tables → Reason
