@@ -27,7 +27,8 @@ use Rattle.tables.specs.declared.State.the-variants.{Current, Free, Ready, Susp
 use Rattle.tables.specs.declared.Tables.{Tables}
 use Rattle.tables.specs.Counts.{CountsFit}
 use Rattle.kernel.specs.Meets.{Meets}
-use Rattle.layout.proofs.Image.{byte-at, formed-place, formed-state, place-byte, stands-is, stands-made, state-byte, tables-back}
+use Rattle.layout.proofs.Image.{byte-at, formed-place, formed-state, stands-is, stands-made, tables-back}
+use Rattle.layout.proofs.Regions.{place-byte, state-byte}
 use Rattle.lists.proofs.Bools.{below?, split}
 use Rattle.rules.proofs.Kept.{sound-numbered}
 use Rattle.tables.proofs.TestLaws.{checked-sound, sound-checked}

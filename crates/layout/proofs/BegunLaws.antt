@@ -11,10 +11,10 @@ use Rattle.tables.specs.Readers.{countOf}
 use Rattle.tables.specs.declared.Tables.{Tables}
 use Rattle.lists.proofs.NumberLaws.{filled-all, filled-next}
 use Rattle.layout.specs.Begun.{Begun}
-use Rattle.layout.specs.Bytes.{byteOf, toBytes}
+use Rattle.layout.specs.Bytes.{byteOf, store4, toBytes}
 use Rattle.layout.specs.Offsets.{countsAt, size, statesAt}
-use Rattle.layout.proofs.Image.{byte-at, bytes-long, count-byte}
-use Rattle.layout.proofs.Regions.{store4}
+use Rattle.layout.proofs.Image.{byte-at, bytes-long}
+use Rattle.layout.proofs.Regions.{count-byte}
 
 module _ (t : Tables) where
   pub begun-none : (bs : List ℕ) → length bs ≡ size → Begun t statesAt bs

@@ -11,10 +11,10 @@ use lib.Seq.{ext-getD}
 use mir.Syntax.{w32}
 use mir.Val.{SFits, ofZ, toZ}
 use mir.ValLaws.{ofZ-toZ, toZ-fits}
-use borrow.Author.Tests.{eq-eqb, eqb-true, le-ltb, lt-ltb, ltb-true}
+use borrow.Author.Tests.{eq-eqb, eqb-true, lt-ltb, ltb-true}
 use Rattle.lists.specs.Numbers.{all, listed}
 use Rattle.tables.specs.Limits.{processLimit, semaphoreLimit}
-use Rattle.tables.specs.Readers.{countOf, freeSemaphore, freeSlot, isUsed, priorityOf, process, semaphore, stateOf}
+use Rattle.tables.specs.Readers.{countOf, freeSemaphore, freeSlot, isUsed, process, semaphore, stateOf}
 use Rattle.tables.specs.declared.Process.{Process}
 use Rattle.tables.specs.declared.Semaphore.{Semaphore}
 use Rattle.tables.specs.declared.Tables.{Tables}
@@ -22,47 +22,13 @@ use Rattle.tables.specs.declared.State.{State}
 use Rattle.tables.specs.declared.State.the-variants.{Current, Free, Ready, Suspended, Waiting}
 use Rattle.lists.proofs.Bools.{and-in, below?, both, either}
 use Rattle.lists.proofs.NumberLaws.{all-at, all-true, listed-all, listed-at, listed-length}
-use Rattle.layout.specs.Bytes.{byteOf, byteState, countByte, flagPlain, fromBytes, of4, placeAt, placeNamed, processAt, semaphoreAt, stateByte, stateNamed, toBytes, usedByte, wellFormed, wordAt}
+use Rattle.layout.specs.Bytes.{byteOf, byteState, flagPlain, fromBytes, of4, placeAt, placeNamed, processAt, semaphoreAt, stateByte, stateNamed, toBytes, usedByte, wellFormed, wordAt, wordByte}
 use Rattle.layout.specs.Offsets.{countsAt, nextProcessAt, nextSemaphoreAt, orderAt, prioritiesAt, size, statesAt, usedAt}
-use Rattle.layout.specs.Stands.{Held, Named, Region, Stands, Word, Words}
-use Rattle.layout.proofs.Readers.{byte-waiting, place-read, process-read, semaphore-read}
+use Rattle.layout.specs.Stands.{Held, Named, Stands}
+use Rattle.layout.proofs.Regions.{count-byte, place-byte, priority-byte, state-byte, used-byte}
+use Rattle.layout.proofs.Readers.{byte-waiting, place-read, process-read, semaphore-read, state-stands, used-stands}
 
--- Tables that stand in two lists of bytes make them one
-
-module _ (a b : List ℕ) (i : ℕ) where
-  in-region : (at n : ℕ) (f : ℕ → ℕ) → at ≤ i → i < at + n → Region at n f a → Region at n f b → getD a i 0 ≡ getD b i 0
-  unfolding Region
-  in-region at n f lo hi x y =
-      let e : at + (i - at) ≡ i = omega arith in
-      subst (λ (z : ℕ). getD a z 0 ≡ getD b z 0) e (x (i - at) (omega arith) ∙ sym (y (i - at) (omega arith)))
-
-  in-words : (at n : ℕ) (f : ℕ → ℕ) → at ≤ i → i < at + n * 4 → Words at n f a → Words at n f b → getD a i 0 ≡ getD b i 0
-  unfolding Words
-  in-words at n f lo hi x y =
-      let k : ℕ = (i - at) / 4 in
-      let d : ℕ = (i - at) % 4 in
-      let e : (i - at) / 4 * 4 + (i - at) % 4 ≡ i - at = div-add-mod' (i - at) 4 in
-      let hd : (i - at) % 4 < 4 = omega arith in
-      let hk : (i - at) / 4 < n = omega arith in
-      let u = x k hk in
-      let v = y k hk in
-      either d 0 (λ q. let z : at + k * 4 ≡ i = omega arith in subst (λ (m : ℕ). getD a m 0 ≡ getD b m 0) z (u .b0 ∙ sym (v .b0)))
-      (λ n0. either d 1 (λ q. let z : at + k * 4 + 1 ≡ i = omega arith in subst (λ (m : ℕ). getD a m 0 ≡ getD b m 0) z (u .b1 ∙ sym (v .b1)))
-      (λ n1. either d 2 (λ q. let z : at + k * 4 + 2 ≡ i = omega arith in subst (λ (m : ℕ). getD a m 0 ≡ getD b m 0) z (u .b2 ∙ sym (v .b2)))
-      (λ n2. let z : at + k * 4 + 3 ≡ i = omega arith in subst (λ (m : ℕ). getD a m 0 ≡ getD b m 0) z (u .b3 ∙ sym (v .b3)))))
-
-pub same-bytes : (t : Tables) (a b : List ℕ) → Stands t a → Stands t b → a ≡ b
-same-bytes t a b x y = ext-getD 0 a b (x .long ∙ sym (y .long)) (λ i h.
-    let l = x .long in
-    below? i prioritiesAt (λ k. in-region a b i statesAt processLimit _ (omega arith) (omega arith) (x .states) (y .states))
-    (λ k₁. below? i usedAt (λ k. in-region a b i prioritiesAt processLimit _ (omega arith) (omega arith) (x .priorities) (y .priorities))
-    (λ k₂. below? i countsAt (λ k. in-region a b i usedAt semaphoreLimit _ (omega arith) (omega arith) (x .used) (y .used))
-    (λ k₃. below? i orderAt (λ k. in-words a b i countsAt semaphoreLimit _ (omega arith) (omega arith) (x .counts) (y .counts))
-    (λ k₄. below? i nextSemaphoreAt (λ k. in-region a b i orderAt processLimit _ (omega arith) (omega arith) (x .order) (y .order))
-    (λ k₅. below? i nextProcessAt (λ k. let e : nextSemaphoreAt ≡ i = omega arith in subst (λ (m : ℕ). getD a m 0 ≡ getD b m 0) e (x .nextSemaphore ∙ sym (y .nextSemaphore)))
-    (λ k₆. let e : nextProcessAt ≡ i = omega arith in subst (λ (m : ℕ). getD a m 0 ≡ getD b m 0) e (x .nextProcess ∙ sym (y .nextProcess)))))))))
-
--- Tables stand in their bytes
+-- Tables stand in their bytes, and in no others
 
 pub bytes-long : (t : Tables) → length (toBytes t) ≡ size
 unfolding toBytes
@@ -73,56 +39,11 @@ module _ (t : Tables) where
   unfolding toBytes
   byte-at i h = listed-at (byteOf t) size i 0 h
 
-  pub state-byte : (p : ℕ) → p < processLimit → byteOf t (statesAt + p) ≡ stateByte (stateOf t p)
-  state-byte p h = let e : statesAt + p - statesAt ≡ p = omega arith in rw (lt-ltb (statesAt + p) prioritiesAt (omega arith), e)
-
-  pub priority-byte : (p : ℕ) → p < processLimit → byteOf t (prioritiesAt + p) ≡ priorityOf t p
-  priority-byte p h =
-      let i : ℕ = prioritiesAt + p in
-      let e : prioritiesAt + p - prioritiesAt ≡ p = omega arith in
-      rw (le-ltb i prioritiesAt (omega arith), lt-ltb i usedAt (omega arith), e)
-
-  pub used-byte : (s : ℕ) → s < semaphoreLimit → byteOf t (usedAt + s) ≡ usedByte (isUsed t s)
-  used-byte s h =
-      let i : ℕ = usedAt + s in
-      let e : usedAt + s - usedAt ≡ s = omega arith in
-      rw (le-ltb i prioritiesAt (omega arith), le-ltb i usedAt (omega arith), lt-ltb i countsAt (omega arith), e)
-
-  pub count-byte : (s d i : ℕ) → s < semaphoreLimit → d < 4 → i ≡ countsAt + s * 4 + d → byteOf t i ≡ countByte (countOf t s) d
-  count-byte s d i h k e =
-      let q : (i - countsAt) / 4 ≡ s = omega arith in
-      let r : (i - countsAt) % 4 ≡ d = omega arith in
-      rw (le-ltb i prioritiesAt (omega arith), le-ltb i usedAt (omega arith), le-ltb i countsAt (omega arith), lt-ltb i orderAt (omega arith), q, r)
-
-  pub place-byte : (j : ℕ) → j < processLimit → byteOf t (orderAt + j) ≡ getD (t .order) j 0
-  place-byte j h =
-      let i : ℕ = orderAt + j in
-      let e : orderAt + j - orderAt ≡ j = omega arith in
-      rw (le-ltb i prioritiesAt (omega arith), le-ltb i usedAt (omega arith), le-ltb i countsAt (omega arith), le-ltb i orderAt (omega arith), lt-ltb i nextSemaphoreAt (omega arith), e)
-
-  word-of : (s : ℕ) → s < semaphoreLimit → Word (countsAt + s * 4) (ofZ w32 (countOf t s)) (toBytes t)
-  word-of s h =
-      record {
-        b0 = byte-at (countsAt + s * 4) (omega arith) ∙ count-byte s 0 (countsAt + s * 4) h (omega arith) (omega arith);
-        b1 = byte-at (countsAt + s * 4 + 1) (omega arith) ∙ count-byte s 1 (countsAt + s * 4 + 1) h (omega arith) refl;
-        b2 = byte-at (countsAt + s * 4 + 2) (omega arith) ∙ count-byte s 2 (countsAt + s * 4 + 2) h (omega arith) refl;
-        b3 = byte-at (countsAt + s * 4 + 3) (omega arith) ∙ count-byte s 3 (countsAt + s * 4 + 3) h (omega arith) refl;
-      }
-
   pub stands-made : Held t → Stands t (toBytes t)
-  unfolding Region Words
-  stands-made h =
-      record {
-        held = h;
-        long = bytes-long t;
-        states = λ p k. byte-at (statesAt + p) (omega arith) ∙ state-byte p k;
-        priorities = λ p k. byte-at (prioritiesAt + p) (omega arith) ∙ priority-byte p k;
-        used = λ s k. byte-at (usedAt + s) (omega arith) ∙ used-byte s k;
-        counts = word-of;
-        order = λ i k. byte-at (orderAt + i) (omega arith) ∙ place-byte i k;
-        nextSemaphore = byte-at nextSemaphoreAt (omega arith);
-        nextProcess = byte-at nextProcessAt (omega arith);
-      }
+  stands-made h = record { held = h; long = bytes-long t; bytes = byte-at }
+
+  pub same-bytes : (a b : List ℕ) → Stands t a → Stands t b → a ≡ b
+  same-bytes a b x y = let l = x .long in ext-getD 0 a b (l ∙ sym (y .long)) (λ i h. x .bytes i (omega arith) ∙ sym (y .bytes i (omega arith)))
 
 -- The tables that bytes are, entry by entry
 
@@ -159,7 +80,7 @@ stands-is t bs st =
     let ps : listed 0 processLimit (processAt bs) ≡ t .processes = listed-all freeSlot (processAt bs) processLimit (t .processes) (st .held .slots) (process-read t bs st) in
     let ss : listed 0 semaphoreLimit (semaphoreAt bs) ≡ t .semaphores = listed-all freeSemaphore (semaphoreAt bs) semaphoreLimit (t .semaphores) (st .held .entries) (semaphore-read t bs st) in
     let os : listed 0 processLimit (placeAt bs) ≡ t .order = listed-all 0 (placeAt bs) processLimit (t .order) (st .held .places) (place-read t bs st) in
-    rw (ps, ss, os, st .nextSemaphore, st .nextProcess)
+    rw (ps, ss, os, st .bytes nextSemaphoreAt (omega arith), st .bytes nextProcessAt (omega arith))
 
 -- A round trip from tables
 
@@ -188,13 +109,13 @@ module _ (bs : List ℕ) (wf : wellFormed bs ≡ true) where
 
 -- the bytes of tables that they can hold are well formed
 pub formed-made : (t : Tables) → Held t → wellFormed (toBytes t) ≡ true
-unfolding wellFormed Region
+unfolding wellFormed
 formed-made t h =
     let st = stands-made t h in
     and-in (eq-eqb (length (toBytes t)) size (bytes-long t))
-    (and-in (all-true processLimit (stateNamed (toBytes t)) (λ p k. lt-ltb (getD (toBytes t) (statesAt + p) 0) (4 + semaphoreLimit) (rw (st .states p k) (state-small (stateOf t p) (h .waits p k)))))
-    (and-in (all-true semaphoreLimit (flagPlain (toBytes t)) (λ s k. lt-ltb (getD (toBytes t) (usedAt + s) 0) 2 (rw (st .used s k) (used-small (isUsed t s)))))
-    (all-true processLimit (placeNamed (toBytes t)) (λ i k. lt-ltb (getD (toBytes t) (orderAt + i) 0) processLimit (rw (st .order i k) (h .row i k))))))
+    (and-in (all-true processLimit (stateNamed (toBytes t)) (λ p k. lt-ltb (getD (toBytes t) (statesAt + p) 0) (4 + semaphoreLimit) (rw (state-stands t (toBytes t) st p k) (state-small (stateOf t p) (h .waits p k)))))
+    (and-in (all-true semaphoreLimit (flagPlain (toBytes t)) (λ s k. lt-ltb (getD (toBytes t) (usedAt + s) 0) 2 (rw (used-stands t (toBytes t) st s k) (used-small (isUsed t s)))))
+    (all-true processLimit (placeNamed (toBytes t)) (λ i k. lt-ltb (getD (toBytes t) (orderAt + i) 0) processLimit (rw (place-read t (toBytes t) st i k) (h .row i k))))))
   where
     state-small : (s : State) → Named s → stateByte s < 4 + semaphoreLimit
     state-small Free n = omega arith
@@ -246,40 +167,63 @@ past-fits t l s h = subst (λ (x : Semaphore). SFits w32 (x .count)) (sym (List�
 
 -- Well formed bytes are the tables that they say
 
-module _ (bs : List ℕ) (byte : (i : ℕ) → getD bs i 0 < 256) where
-  word-is : (s : ℕ) → Word (countsAt + s * 4) (wordAt bs s) bs
-  word-is s =
-      let k : ℕ = countsAt + s * 4 in
-      let w = bytes-there (getD bs k 0) (getD bs (k + 1) 0) (getD bs (k + 2) 0) (getD bs (k + 3) 0) (byte k) (byte (k + 1)) (byte (k + 2)) (byte (k + 3)) (wordAt bs s) refl in
-      record { b0 = w .0; b1 = w .1; b2 = w .2; b3 = w .3 }
+-- what holds in each part holds of every byte
+by-parts : (P : ℕ → Type 0)
+    → ((p : ℕ) → p < processLimit → P (statesAt + p))
+    → ((p : ℕ) → p < processLimit → P (prioritiesAt + p))
+    → ((s : ℕ) → s < semaphoreLimit → P (usedAt + s))
+    → ((s d i : ℕ) → s < semaphoreLimit → d < 4 → i ≡ countsAt + s * 4 + d → P i)
+    → ((i : ℕ) → i < processLimit → P (orderAt + i))
+    → P nextSemaphoreAt → P nextProcessAt
+    → (i : ℕ) → i < size → P i
+by-parts P states priorities used counts order semaphore process i h =
+    below? i prioritiesAt (λ k. part statesAt processLimit states (omega arith) (omega arith))
+    (λ k₁. below? i usedAt (λ k. part prioritiesAt processLimit priorities (omega arith) (omega arith))
+    (λ k₂. below? i countsAt (λ k. part usedAt semaphoreLimit used (omega arith) (omega arith))
+    (λ k₃. below? i orderAt (λ k. let e : (i - countsAt) / 4 * 4 + (i - countsAt) % 4 ≡ i - countsAt = div-add-mod' (i - countsAt) 4 in counts ((i - countsAt) / 4) ((i - countsAt) % 4) i (omega arith) (omega arith) (omega arith))
+    (λ k₄. below? i nextSemaphoreAt (λ k. part orderAt processLimit order (omega arith) (omega arith))
+    (λ k₅. below? i nextProcessAt (λ k. let e : nextSemaphoreAt ≡ i = omega arith in subst P e semaphore)
+    (λ k₆. let e : nextProcessAt ≡ i = omega arith in subst P e process))))))
+  where
+    part : (at n : ℕ) → ((j : ℕ) → j < n → P (at + j)) → at ≤ i → i < at + n → P i
+    part at n f lo hi = let e : at + (i - at) ≡ i = omega arith in subst P e (f (i - at) (omega arith))
 
-  pub word-small : (s : ℕ) → wordAt bs s < 4294967296
-  word-small s =
-      let k : ℕ = countsAt + s * 4 in
-      word-fits (getD bs k 0) (getD bs (k + 1) 0) (getD bs (k + 2) 0) (getD bs (k + 3) 0) (byte k) (byte (k + 1)) (byte (k + 2)) (byte (k + 3))
+module _ (bs : List ℕ) (byte : (i : ℕ) → getD bs i 0 < 256) where
+  -- each byte of a word is the byte of the word
+  word-said : (k i d : ℕ) → d < 4 → i ≡ k + d → getD bs i 0 ≡ wordByte (wordAt bs k) d
+  word-said k i d h e =
+      let w = bytes-there (getD bs k 0) (getD bs (k + 1) 0) (getD bs (k + 2) 0) (getD bs (k + 3) 0) (byte k) (byte (k + 1)) (byte (k + 2)) (byte (k + 3)) (wordAt bs k) refl in
+      either d 0 (λ q. let z : i ≡ k = omega arith in rw (z, q) (w .0))
+      (λ n0. either d 1 (λ q. let z : i ≡ k + 1 = omega arith in rw (z, q) (w .1))
+      (λ n1. either d 2 (λ q. let z : i ≡ k + 2 = omega arith in rw (z, q) (w .2))
+      (λ n2. let q : d ≡ 3 = omega arith in let z : i ≡ k + 3 = omega arith in rw (z, q) (w .3))))
+
+  word-small : (k : ℕ) → wordAt bs k < 4294967296
+  word-small k = word-fits (getD bs k 0) (getD bs (k + 1) 0) (getD bs (k + 2) 0) (getD bs (k + 3) 0) (byte k) (byte (k + 1)) (byte (k + 2)) (byte (k + 3))
 
   pub stands-read : wellFormed bs ≡ true → Stands (fromBytes bs) bs
-  unfolding Region Words fromBytes
+  unfolding fromBytes
   stands-read wf =
       let state : (p : ℕ) → p < processLimit → stateOf (fromBytes bs) p ≡ byteState (getD bs (statesAt + p) 0) = λ p h. ap (λ (x : Process). x .state) (process-said bs p h) in
-      let count : (s : ℕ) → s < semaphoreLimit → countOf (fromBytes bs) s ≡ toZ w32 (wordAt bs s) = λ s h. ap (λ (x : Semaphore). x .count) (semaphore-said bs s h) in
+      let count : (s : ℕ) → s < semaphoreLimit → countOf (fromBytes bs) s ≡ toZ w32 (wordAt bs (countsAt + s * 4)) = λ s h. ap (λ (x : Semaphore). x .count) (semaphore-said bs s h) in
       record {
         held = record {
           slots = processes-long bs;
           entries = semaphores-long bs;
           places = order-long bs;
           waits = λ p h. rw (state p h) (state-back (getD bs (statesAt + p) 0) (formed-state bs wf p h) .1);
-          fits = λ s. below? s semaphoreLimit (λ h. rw (count s h) (toZ-fits w32 (wordAt bs s) (record { fits = word-small s }))) (past-fits (fromBytes bs) (semaphores-long bs) s);
+          fits = λ s. below? s semaphoreLimit (λ h. rw (count s h) (toZ-fits w32 (wordAt bs (countsAt + s * 4)) (record { fits = word-small (countsAt + s * 4) }))) (past-fits (fromBytes bs) (semaphores-long bs) s);
           row = λ i h. rw (place-said bs i h) (formed-place bs wf i h);
         };
         long = formed-long bs wf;
-        states = λ p h. sym (ap stateByte (state p h) ∙ state-back (getD bs (statesAt + p) 0) (formed-state bs wf p h) .0);
-        priorities = λ p h. sym (ap (λ (x : Process). x .priority) (process-said bs p h));
-        used = λ s h. sym (ap (λ (x : Semaphore). usedByte (x .used)) (semaphore-said bs s h) ∙ used-back (getD bs (usedAt + s) 0) (formed-flag bs wf s h));
-        counts = λ s h. subst (λ (n : ℕ). Word (countsAt + s * 4) n bs) (sym (ap (ofZ w32) (count s h) ∙ ofZ-toZ w32 (wordAt bs s) (record { fits = word-small s }))) (word-is s);
-        order = λ i h. sym (place-said bs i h);
-        nextSemaphore = refl;
-        nextProcess = refl;
+        bytes = by-parts (λ (i : ℕ). getD bs i 0 ≡ byteOf (fromBytes bs) i)
+            (λ p h. sym (state-byte (fromBytes bs) p h ∙ ap stateByte (state p h) ∙ state-back (getD bs (statesAt + p) 0) (formed-state bs wf p h) .0))
+            (λ p h. sym (priority-byte (fromBytes bs) p h ∙ ap (λ (x : Process). x .priority) (process-said bs p h)))
+            (λ s h. sym (used-byte (fromBytes bs) s h ∙ ap (λ (x : Semaphore). usedByte (x .used)) (semaphore-said bs s h) ∙ used-back (getD bs (usedAt + s) 0) (formed-flag bs wf s h)))
+            (λ s d i h k e. word-said (countsAt + s * 4) i d k e ∙ ap (λ (n : ℕ). wordByte n d) (sym (ap (ofZ w32) (count s h) ∙ ofZ-toZ w32 (wordAt bs (countsAt + s * 4)) (record { fits = word-small (countsAt + s * 4) }))) ∙ sym (count-byte (fromBytes bs) s d i h k e))
+            (λ i h. sym (place-byte (fromBytes bs) i h ∙ place-said bs i h))
+            refl
+            refl;
       }
 
   -- a round trip from bytes

@@ -18,8 +18,9 @@ use Rattle.tables.specs.declared.Tables.{Tables}
 use Rattle.tables.specs.Limits.{processLimit, semaphoreLimit}
 use Rattle.tables.specs.Readers.{countOf, isUsed, priorityOf, process, semaphore, stateOf}
 use Rattle.layout.specs.Offsets.{countsAt, nextProcessAt, nextSemaphoreAt, orderAt, prioritiesAt, statesAt, usedAt}
-use Rattle.layout.specs.Bytes.{byteState, of4, processAt, semaphoreAt, stateByte, usedByte, wordAt}
-use Rattle.layout.specs.Stands.{Named, Region, Stands, Tells, Word, Words}
+use Rattle.layout.specs.Bytes.{byteState, of4, processAt, semaphoreAt, stateByte, usedByte, wordAt, wordByte}
+use Rattle.layout.specs.Stands.{Named, Stands, Tells}
+use Rattle.layout.proofs.Regions.{count-byte, place-byte, priority-byte, state-byte, used-byte}
 
 -- One entry as bytes, and back
 
@@ -47,40 +48,46 @@ word-there n h =
     let m₃ : q₃ % 256 ≡ q₃ = mod-eq-of-lt (omega arith) in
     omega (arith, div-add-mod' n 256, div-add-mod' q₁ 256, div-add-mod' q₂ 256)
 
+-- a word whose bytes stand
+pub word-read : (bs : List ℕ) (k n : ℕ) → n < 4294967296 → ((i d : ℕ) → d < 4 → i ≡ k + d → getD bs i 0 ≡ wordByte n d) → wordAt bs k ≡ n
+word-read bs k n h at = rw (at k 0 (omega arith) (omega arith), at (k + 1) 1 (omega arith) refl, at (k + 2) 2 (omega arith) refl, at (k + 3) 3 (omega arith) refl) (word-there n h)
+
 -- Of bytes that are tables
 
 module _ (t : Tables) (bs : List ℕ) (st : Stands t bs) where
+  pub state-stands : (p : ℕ) → p < processLimit → getD bs (statesAt + p) 0 ≡ stateByte (stateOf t p)
+  state-stands p h = st .bytes (statesAt + p) (omega arith) ∙ state-byte t p h
+
   pub state-read : (p : ℕ) → p < processLimit → getD bs p 0 ≡ stateByte (stateOf t p)
-  unfolding Region
-  state-read p h = ap (λ (z : ℕ). getD bs z 0) (sym (zero-add p)) ∙ st .states p h
+  state-read p h = ap (λ (z : ℕ). getD bs z 0) (sym (zero-add p)) ∙ state-stands p h
 
   pub priority-read : (p : ℕ) → p < processLimit → getD bs (prioritiesAt + p) 0 ≡ priorityOf t p
-  unfolding Region
-  priority-read p h = st .priorities p h
+  priority-read p h = st .bytes (prioritiesAt + p) (omega arith) ∙ priority-byte t p h
 
   pub process-read : (p : ℕ) → p < processLimit → processAt bs p ≡ process t p
   process-read p h =
-      let e : byteState (getD bs (statesAt + p) 0) ≡ stateOf t p = ap (λ (i : ℕ). byteState (getD bs i 0)) (zero-add p) ∙ ap byteState (state-read p h) ∙ state-there (stateOf t p) (st .held .waits p h) in
+      let e : byteState (getD bs (statesAt + p) 0) ≡ stateOf t p = ap byteState (state-stands p h) ∙ state-there (stateOf t p) (st .held .waits p h) in
       rw (e, priority-read p h)
 
-  pub used-read : (s : ℕ) → s < semaphoreLimit → eqb (getD bs (usedAt + s) 0) 1 ≡ isUsed t s
-  unfolding Region
-  used-read s h = ap (λ (z : ℕ). eqb z 1) (st .used s h) ∙ used-there (isUsed t s)
+  pub used-stands : (s : ℕ) → s < semaphoreLimit → getD bs (usedAt + s) 0 ≡ usedByte (isUsed t s)
+  used-stands s h = st .bytes (usedAt + s) (omega arith) ∙ used-byte t s h
 
-  pub count-read : (s : ℕ) → s < semaphoreLimit → toZ w32 (wordAt bs s) ≡ countOf t s
-  unfolding Words
+  pub used-read : (s : ℕ) → s < semaphoreLimit → eqb (getD bs (usedAt + s) 0) 1 ≡ isUsed t s
+  used-read s h = ap (λ (z : ℕ). eqb z 1) (used-stands s h) ∙ used-there (isUsed t s)
+
+  count-stands : (s d i : ℕ) → s < semaphoreLimit → d < 4 → i ≡ countsAt + s * 4 + d → getD bs i 0 ≡ wordByte (ofZ w32 (countOf t s)) d
+  count-stands s d i h k e = st .bytes i (omega arith) ∙ count-byte t s d i h k e
+
+  pub count-read : (s : ℕ) → s < semaphoreLimit → toZ w32 (wordAt bs (countsAt + s * 4)) ≡ countOf t s
   count-read s h =
-      let w : Word (countsAt + s * 4) (ofZ w32 (countOf t s)) bs = st .counts s h in
       let f : SFits w32 (countOf t s) = st .held .fits s in
-      let is : wordAt bs s ≡ ofZ w32 (countOf t s) = rw (w .b0, w .b1, w .b2, w .b3) (word-there (ofZ w32 (countOf t s)) (ofZ-fits w32 (countOf t s) f .fits)) in
-      ap (toZ w32) is ∙ toZ-ofZ w32 (countOf t s) f
+      ap (toZ w32) (word-read bs (countsAt + s * 4) (ofZ w32 (countOf t s)) (ofZ-fits w32 (countOf t s) f .fits) (λ i d. count-stands s d i h)) ∙ toZ-ofZ w32 (countOf t s) f
 
   pub semaphore-read : (s : ℕ) → s < semaphoreLimit → semaphoreAt bs s ≡ semaphore t s
   semaphore-read s h = rw (used-read s h, count-read s h)
 
   pub place-read : (i : ℕ) → i < processLimit → getD bs (orderAt + i) 0 ≡ getD (t .order) i 0
-  unfolding Region
-  place-read i h = st .order i h
+  place-read i h = st .bytes (orderAt + i) (omega arith) ∙ place-byte t i h
 
 -- As readers
 
@@ -93,7 +100,7 @@ module _ (bs : List ℕ) where
   unfolding Tells
   used-tells s h t st = used-read t bs st s h
 
-  pub count-tells : (s : ℕ) (r : ℤ) → s < semaphoreLimit → r ≡ toZ w32 (wordAt bs s) → Tells (λ t. countOf t s) bs r
+  pub count-tells : (s : ℕ) (r : ℤ) → s < semaphoreLimit → r ≡ toZ w32 (wordAt bs (countsAt + s * 4)) → Tells (λ t. countOf t s) bs r
   unfolding Tells
   count-tells s r h e t st = e ∙ count-read t bs st s h
 
@@ -103,11 +110,11 @@ module _ (bs : List ℕ) where
 
   pub next-semaphore-tells : Tells (λ t. t .«next_semaphore») bs (getD bs nextSemaphoreAt 0)
   unfolding Tells
-  next-semaphore-tells t st = st .nextSemaphore
+  next-semaphore-tells t st = st .bytes nextSemaphoreAt (omega arith)
 
   pub next-process-tells : Tells (λ t. t .«next_process») bs (getD bs nextProcessAt 0)
   unfolding Tells
-  next-process-tells t st = st .nextProcess
+  next-process-tells t st = st .bytes nextProcessAt (omega arith)
 
 -- a flag stored as the machine stores a bool
 pub bool-byte : (b : Bool) → boolByte b ≡ usedByte b

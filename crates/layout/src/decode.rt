@@ -7,7 +7,7 @@ use crate::offsets::PRIORITIES;
 use crate::offsets::USED;
 use crate::state::byte_state;
 use crate::word::signed;
-use crate::word::word;
+use crate::word::word_at;
 use tables::Process;
 use tables::Semaphore;
 use tables::State;
@@ -45,10 +45,9 @@ fn semaphores(bytes: &[u8]) -> [Semaphore; Tables::SEMAPHORES]
     };
     let mut entries = [unused; Tables::SEMAPHORES];
     for i in 0..Tables::SEMAPHORES {
-        let k = COUNTS + i * 4;
         entries[i] = Semaphore {
             used: bytes[USED + i] == 1,
-            count: signed(word(bytes[k], bytes[k + 1], bytes[k + 2], bytes[k + 3])),
+            count: signed(word_at(bytes, COUNTS + i * 4)),
         };
     }
     entries

@@ -6,6 +6,7 @@ use crate::offsets::ORDER;
 use crate::offsets::PRIORITIES;
 use crate::offsets::USED;
 use crate::state::state_byte;
+use crate::word::put_word;
 use crate::word::unsigned;
 use tables::Tables;
 ghost use mathlib.Core.Path.{_≡_};
@@ -56,12 +57,7 @@ fn put_counts(bytes: &mut [u8], t: Tables)
     let semaphores = t.semaphores;
     for i in 0..Tables::SEMAPHORES {
         let x = semaphores[i];
-        let u = unsigned(x.count);
-        let k = COUNTS + i * 4;
-        bytes[k] = (u % 256) as u8;
-        bytes[k + 1] = (u / 256 % 256) as u8;
-        bytes[k + 2] = (u / 65536 % 256) as u8;
-        bytes[k + 3] = (u / 16777216 % 256) as u8;
+        put_word(bytes, COUNTS + i * 4, unsigned(x.count));
     }
 }
 

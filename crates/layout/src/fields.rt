@@ -7,9 +7,10 @@ use crate::offsets::PRIORITIES;
 use crate::offsets::USED;
 use crate::state::byte_state;
 use crate::state::state_byte;
+use crate::word::put_word;
 use crate::word::signed;
 use crate::word::unsigned;
-use crate::word::word;
+use crate::word::word_at;
 use tables::Process;
 use tables::State;
 ghost use mathlib.Core.Path.{_≡_};
@@ -68,20 +69,14 @@ pub fn count(bytes: &[u8], s: u8) -> i32
     requires { ⌜ (length (now bytes) ≡ size) × (s < semaphoreLimit) ⌝ }
     ensures { λ r. ⌜ Tells (λ t. countOf t s) (now (bytes .entry)) r ⌝ }
 {
-    let k = COUNTS + (s as usize) * 4;
-    signed(word(bytes[k], bytes[k + 1], bytes[k + 2], bytes[k + 3]))
+    signed(word_at(bytes, COUNTS + (s as usize) * 4))
 }
 
 pub fn put_count(bytes: &mut [u8], s: u8, count: i32)
     requires { ⌜ (length (now bytes) ≡ size) × (s < semaphoreLimit) ⌝ }
     ensures { λ _. ⌜ Turns (λ t. withCount t s count) (now (bytes .entry)) (now (bytes .exit)) ⌝ }
 {
-    let u = unsigned(count);
-    let k = COUNTS + (s as usize) * 4;
-    bytes[k] = (u % 256) as u8;
-    bytes[k + 1] = (u / 256 % 256) as u8;
-    bytes[k + 2] = (u / 65536 % 256) as u8;
-    bytes[k + 3] = (u / 16777216 % 256) as u8;
+    put_word(bytes, COUNTS + (s as usize) * 4, unsigned(count));
 }
 
 pub fn put_semaphore(bytes: &mut [u8], s: u8, used: bool, count: i32)

@@ -1,4 +1,4 @@
-use Prim.Native.Nat.{_-_, _≤_}
+use Prim.Native.Nat.{_*_, _+_, _-_, _≤_}
 use native.Mathlib.Omega.{arith}
 use mathlib.Core.Path.{_∙_, _≡_, ap, refl, sym}
 use lib.ListN.{length, length-set, take}
@@ -10,7 +10,7 @@ use Rattle.tables.specs.Limits.{semaphoreLimit}
 use Rattle.tables.specs.Readers.{freeSemaphore}
 use Rattle.lists.proofs.NumberLaws.{filled-all, filled-next}
 use Rattle.layout.specs.Bytes.{fromBytes, wordAt}
-use Rattle.layout.specs.Offsets.{size}
+use Rattle.layout.specs.Offsets.{countsAt, size}
 use Rattle.layout.proofs.decode.semaphores.Statement.{statement}
 use Rattle.layout.proofs.Image.{semaphore-said, semaphores-long}
 use Rattle.layout.proofs.decode.semaphores.Tie as tie
@@ -24,41 +24,20 @@ abbrev μ-loop : tie.MeasureT-loop
 loop-holds : tie.Need-loop-holds Inv-loop μ-loop
 loop-holds c = (search needs, search needs, refl, search needs)
 
-mul-k : tie.Need-mul-k Inv-loop μ-loop
-mul-k c = search needs
+add-t6 : tie.Need-add-t6 Inv-loop μ-loop
+add-t6 c = search needs
 
-add-k : tie.Need-add-k Inv-loop μ-loop
-add-k c = search needs
+shared-slice-read-t8 : tie.Need-shared-slice-read-t8 Inv-loop μ-loop
+shared-slice-read-t8 c = search needs
 
-add-t7 : tie.Need-add-t7 Inv-loop μ-loop
-add-t7 c = search needs
+mul-word-at : tie.Need-mul-word-at Inv-loop μ-loop
+mul-word-at c = search needs
 
-shared-slice-read-t9 : tie.Need-shared-slice-read-t9 Inv-loop μ-loop
-shared-slice-read-t9 c = search needs
+add-word-at : tie.Need-add-word-at Inv-loop μ-loop
+add-word-at c = search needs
 
-shared-slice-read-word : tie.Need-shared-slice-read-word Inv-loop μ-loop
-shared-slice-read-word c = search needs
-
-add-word : tie.Need-add-word Inv-loop μ-loop
-add-word c = search needs
-
-shared-slice-read-word-2 : tie.Need-shared-slice-read-word-2 Inv-loop μ-loop
-shared-slice-read-word-2 c = search needs
-
-add-word-2 : tie.Need-add-word-2 Inv-loop μ-loop
-add-word-2 c = search needs
-
-shared-slice-read-word-3 : tie.Need-shared-slice-read-word-3 Inv-loop μ-loop
-shared-slice-read-word-3 c = search needs
-
-add-word-3 : tie.Need-add-word-3 Inv-loop μ-loop
-add-word-3 c = search needs
-
-shared-slice-read-word-4 : tie.Need-shared-slice-read-word-4 Inv-loop μ-loop
-shared-slice-read-word-4 c = search needs
-
-word-requires : tie.Need-word-requires Inv-loop μ-loop
-word-requires c κs = search needs
+word-at-requires : tie.Need-word-at-requires Inv-loop μ-loop
+word-at-requires c κs = search needs
 
 signed-requires : tie.Need-signed-requires Inv-loop μ-loop
 signed-requires c κs = search needs
@@ -77,11 +56,11 @@ loop-less c = search needs
 
 loop-again : tie.Need-loop-again Inv-loop μ-loop
 loop-again c =
-    let i = c .before .before .before .before .before .before .before .before .loop .i in
-    let bs = c .before .before .before .before .before .before .before .before .before .before .args .bytes .now in
+    let i = c .before .before .before .before .loop .i in
+    let bs = c .before .before .before .before .before .before .args .bytes .now in
     let m : length (fromBytes bs .semaphores) ≡ semaphoreLimit = semaphores-long bs in
-    let n : c .signed .result ≡ toZ w32 (wordAt bs i) = c .signed .ensures ∙ ap (toZ w32) (c .before .word .ensures) in
-    (search needs, simp length-set (c .before .before .before .before .before .before .before .before .loop .inv .1), filled-next (fromBytes bs .semaphores) (c .before .before .before .before .before .before .before .before .loop .entries) i freeSemaphore _ (c .before .before .before .before .before .before .before .before .loop .inv .2) (omega arith) (omega arith) (rw (toZ-ofZ w32 _ (record { sfits = c .signed .ok }), n) (sym (semaphore-said bs i (omega arith)))), search needs)
+    let n : c .signed .result ≡ toZ w32 (wordAt bs (countsAt + i * 4)) = c .signed .ensures ∙ ap (toZ w32) (c .before .word-at .ensures) in
+    (search needs, simp length-set (c .before .before .before .before .loop .inv .1), filled-next (fromBytes bs .semaphores) (c .before .before .before .before .loop .entries) i freeSemaphore _ (c .before .before .before .before .loop .inv .2) (omega arith) (omega arith) (rw (toZ-ofZ w32 _ (record { sfits = c .signed .ok }), n) (sym (semaphore-said bs i (omega arith)))), search needs)
 
 returns : tie.Need-returns Inv-loop μ-loop
 returns c =
@@ -95,18 +74,11 @@ semaphores-spec =
     Inv-loop
     μ-loop
     loop-holds
-    mul-k
-    add-k
-    add-t7
-    shared-slice-read-t9
-    shared-slice-read-word
-    add-word
-    shared-slice-read-word-2
-    add-word-2
-    shared-slice-read-word-3
-    add-word-3
-    shared-slice-read-word-4
-    word-requires
+    add-t6
+    shared-slice-read-t8
+    mul-word-at
+    add-word-at
+    word-at-requires
     signed-requires
     mul-entries
     array-set-from-entries

@@ -2,7 +2,7 @@ use Prim.Native.Nat.{_*_, _+_, _-_, _<_, _≤_, ℕ}
 use native.Mathlib.Omega.{arith}
 use mathlib.Core.Path.{_∙_, _≡_, ap, refl, subst, sym}
 use mathlib.Core.List.{List}
-use lib.ListN.{getD, length, length-set}
+use lib.ListN.{getD, length}
 use mir.Syntax.{w32}
 use mir.Val.{SFits, ofZ}
 use mir.ValLaws.{toZ-ofZ}
@@ -16,7 +16,7 @@ use Rattle.layout.specs.Begun.{Begun}
 use Rattle.layout.specs.Offsets.{countsAt, orderAt, size}
 use Rattle.layout.proofs.encode.put_counts.Statement.{statement}
 use Rattle.layout.proofs.BegunLaws.{begun-at, begun-count, unmapped}
-use Rattle.layout.proofs.Regions.{store4}
+use Rattle.layout.specs.Bytes.{store4}
 use Rattle.layout.proofs.Image.{past-fits}
 use Rattle.layout.proofs.encode.put_counts.Tie as tie
 
@@ -35,47 +35,17 @@ mul-x c = search needs
 array-copy-out-x : tie.Need-array-copy-out-x Inv-loop μ-loop
 array-copy-out-x c = search needs
 
+mul-put-word : tie.Need-mul-put-word Inv-loop μ-loop
+mul-put-word c = search needs
+
+add-put-word : tie.Need-add-put-word Inv-loop μ-loop
+add-put-word c = search needs
+
 unsigned-requires : tie.Need-unsigned-requires Inv-loop μ-loop
 unsigned-requires c κs = search needs
 
-mul-k : tie.Need-mul-k Inv-loop μ-loop
-mul-k c = search needs
-
-add-k : tie.Need-add-k Inv-loop μ-loop
-add-k c = search needs
-
-cast-bytes : tie.Need-cast-bytes Inv-loop μ-loop
-cast-bytes c = search needs
-
-slice-write-bytes : tie.Need-slice-write-bytes Inv-loop μ-loop
-slice-write-bytes c = search needs
-
-cast-bytes-2 : tie.Need-cast-bytes-2 Inv-loop μ-loop
-cast-bytes-2 c = search needs
-
-add-bytes : tie.Need-add-bytes Inv-loop μ-loop
-add-bytes c = search needs
-
-slice-write-bytes-2 : tie.Need-slice-write-bytes-2 Inv-loop μ-loop
-slice-write-bytes-2 c = let l : length (c .before .before .before .before .loop .bytes) ≡ size = c .before .before .before .before .loop .inv .1 in simp length-set (omega arith)
-
-cast-bytes-3 : tie.Need-cast-bytes-3 Inv-loop μ-loop
-cast-bytes-3 c = search needs
-
-add-bytes-2 : tie.Need-add-bytes-2 Inv-loop μ-loop
-add-bytes-2 c = search needs
-
-slice-write-bytes-3 : tie.Need-slice-write-bytes-3 Inv-loop μ-loop
-slice-write-bytes-3 c = let l : length (c .before .before .before .before .loop .bytes) ≡ size = c .before .before .before .before .loop .inv .1 in simp length-set (omega arith)
-
-cast-bytes-4 : tie.Need-cast-bytes-4 Inv-loop μ-loop
-cast-bytes-4 c = search needs
-
-add-bytes-3 : tie.Need-add-bytes-3 Inv-loop μ-loop
-add-bytes-3 c = search needs
-
-slice-write-bytes-4 : tie.Need-slice-write-bytes-4 Inv-loop μ-loop
-slice-write-bytes-4 c = let l : length (c .before .before .before .before .loop .bytes) ≡ size = c .before .before .before .before .loop .inv .1 in simp length-set (omega arith)
+put-word-requires : tie.Need-put-word-requires Inv-loop μ-loop
+put-word-requires c κs = search needs
 
 add-i : tie.Need-add-i Inv-loop μ-loop
 add-i c = search needs
@@ -85,15 +55,16 @@ loop-less c = search needs
 
 loop-again : tie.Need-loop-again Inv-loop μ-loop
 loop-again c =
-    let i = c .before .before .before .before .loop .i in
-    let f : SFits w32 (getD (c .before .before .before .before .before .before .before .args .t .semaphores) i freeSemaphore .count) = search needs in (
+    let i = c .before .before .before .before .before .before .before .before .loop .i in
+    let bs = c .before .before .before .before .before .before .before .before .loop .bytes in
+    let f : SFits w32 (getD (c .before .before .before .before .before .before .before .before .before .before .before .args .t .semaphores) i freeSemaphore .count) = search needs in (
       search needs,
-      simp length-set (c .before .before .before .before .loop .inv .1),
+      search needs,
       (λ t e b.
-          let u : c .unsigned .result ≡ ofZ w32 (countOf t i) = c .unsigned .ensures ∙ ap (ofZ w32) (toZ-ofZ w32 _ f) ∙ ap (λ (xs : List Semaphore). ofZ w32 (getD xs i freeSemaphore .count)) (sym e) in
-          subst (λ (n : ℕ). Begun t (countsAt + (i + 1) * 4) (store4 (c .before .before .before .before .loop .bytes) (countsAt + i * 4) n)) (sym u) (begun-count t i (c .before .before .before .before .loop .bytes) (omega arith) (c .before .before .before .before .loop .inv .2 t e b))),
+          let u : c .before .before .before .unsigned .result ≡ ofZ w32 (countOf t i) = c .before .before .before .unsigned .ensures ∙ ap (ofZ w32) (toZ-ofZ w32 _ f) ∙ ap (λ (xs : List Semaphore). ofZ w32 (getD xs i freeSemaphore .count)) (sym e) in
+          subst (Begun t (countsAt + (i + 1) * 4)) (sym (c .before .before .put-word .ensures ∙ ap (store4 bs (countsAt + i * 4)) u)) (begun-count t i bs (omega arith) (c .before .before .before .before .before .before .before .before .loop .inv .2 t e b))),
       search needs,
-      (λ s h. either s i (λ q. rw q f) (λ n. c .before .before .before .before .loop .inv .4 s (omega arith))),
+      (λ s h. either s i (λ q. rw q f) (λ n. c .before .before .before .before .before .before .before .before .loop .inv .4 s (omega arith))),
     )
 
 same-length : tie.Need-same-length Inv-loop μ-loop
@@ -114,20 +85,10 @@ put-counts-spec =
     loop-holds
     mul-x
     array-copy-out-x
+    mul-put-word
+    add-put-word
     unsigned-requires
-    mul-k
-    add-k
-    cast-bytes
-    slice-write-bytes
-    cast-bytes-2
-    add-bytes
-    slice-write-bytes-2
-    cast-bytes-3
-    add-bytes-2
-    slice-write-bytes-3
-    cast-bytes-4
-    add-bytes-3
-    slice-write-bytes-4
+    put-word-requires
     add-i
     loop-less
     loop-again

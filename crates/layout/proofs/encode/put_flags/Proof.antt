@@ -13,7 +13,7 @@ use Rattle.layout.specs.Begun.{Begun}
 use Rattle.layout.specs.Offsets.{countsAt, size, usedAt}
 use Rattle.layout.proofs.encode.put_flags.Statement.{statement}
 use Rattle.layout.proofs.BegunLaws.{begun-at, begun-next, unmapped}
-use Rattle.layout.proofs.Image.{used-byte}
+use Rattle.layout.proofs.Regions.{used-byte}
 use Rattle.layout.proofs.Readers.{bool-byte}
 use Rattle.layout.proofs.encode.put_flags.Tie as tie
 

@@ -10,7 +10,7 @@ use Rattle.layout.specs.Begun.{Begun}
 use Rattle.layout.specs.Offsets.{nextSemaphoreAt, orderAt, size}
 use Rattle.layout.proofs.encode.put_order.Statement.{statement}
 use Rattle.layout.proofs.BegunLaws.{begun-at, begun-next}
-use Rattle.layout.proofs.Image.{place-byte}
+use Rattle.layout.proofs.Regions.{place-byte}
 use Rattle.layout.proofs.encode.put_order.Tie as tie
 
 abbrev Inv-loop : tie.InvT-loop

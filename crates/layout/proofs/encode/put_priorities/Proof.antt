@@ -12,7 +12,7 @@ use Rattle.layout.specs.Begun.{Begun}
 use Rattle.layout.specs.Offsets.{prioritiesAt, size, usedAt}
 use Rattle.layout.proofs.encode.put_priorities.Statement.{statement}
 use Rattle.layout.proofs.BegunLaws.{begun-at, begun-next, unmapped}
-use Rattle.layout.proofs.Image.{priority-byte}
+use Rattle.layout.proofs.Regions.{priority-byte}
 use Rattle.layout.proofs.encode.put_priorities.Tie as tie
 
 abbrev Inv-loop : tie.InvT-loop

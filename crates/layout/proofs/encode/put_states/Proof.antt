@@ -13,7 +13,7 @@ use Rattle.layout.specs.Bytes.{byteOf, stateByte}
 use Rattle.layout.specs.Offsets.{prioritiesAt, size, statesAt}
 use Rattle.layout.proofs.encode.put_states.Statement.{statement}
 use Rattle.layout.proofs.BegunLaws.{begun-at, begun-next, unmapped}
-use Rattle.layout.proofs.Image.{state-byte}
+use Rattle.layout.proofs.Regions.{state-byte}
 use Rattle.layout.proofs.encode.put_states.Tie as tie
 
 abbrev Inv-loop : tie.InvT-loop
