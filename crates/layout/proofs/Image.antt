@@ -3,10 +3,10 @@ use Prim.Native.Nat.{_%_, _*_, _+_, _-_, _/_, _<_, _≤_, ℕ}
 use native.Mathlib.Nat.{add-mul-mod-self-right, div-add-mod', mod-eq-of-lt}
 use native.Mathlib.Omega.{arith}
 use mathlib.Core.Bool.{Bool, _&&_, false, true}
-use mathlib.Core.List.{List}
+use mathlib.Core.List.{List, map}
 use mathlib.Core.Path.{_∙_, _≡_, ap, refl, subst, sym}
 use lib.Dec.{eqb}
-use lib.ListN.{List·getD-eq-default, getD, length}
+use lib.ListN.{List·getD-eq-default, getD, length, length-map}
 use lib.Seq.{ext-getD}
 use mir.Syntax.{w32}
 use mir.Val.{SFits, ofZ, toZ}
@@ -25,6 +25,7 @@ use Rattle.lists.proofs.NumberLaws.{all-at, all-true, listed-all, listed-at, li
 use Rattle.layout.specs.Bytes.{byteOf, byteState, flagPlain, fromBytes, of4, placeAt, placeNamed, processAt, semaphoreAt, stateByte, stateNamed, toBytes, usedByte, wellFormed, wordAt, wordByte}
 use Rattle.layout.specs.Offsets.{countsAt, nextProcessAt, nextSemaphoreAt, orderAt, prioritiesAt, size, statesAt, usedAt}
 use Rattle.layout.specs.Stands.{Held, Named, Stands}
+use Rattle.layout.proofs.Words.{word-said, word-small}
 use Rattle.layout.proofs.Regions.{count-byte, place-byte, priority-byte, state-byte, used-byte}
 use Rattle.layout.proofs.Readers.{byte-waiting, place-read, process-read, semaphore-read, state-stands, used-stands}
 
@@ -141,25 +142,9 @@ state-back b h =
 used-back : (u : ℕ) → u < 2 → usedByte (eqb u 1) ≡ u
 used-back u h = either u 0 (λ e. rw e refl) (λ n. let e : u ≡ 1 = omega arith in rw e refl)
 
-low : (a m : ℕ) → a < 256 → (a + m * 256) % 256 ≡ a
-low a m h = add-mul-mod-self-right a m 256 ∙ mod-eq-of-lt h
-
-module _ (a b c d : ℕ) (ha : a < 256) (hb : b < 256) (hc : c < 256) (hd : d < 256) where
-  word-fits : of4 a b c d < 4294967296
-  word-fits = omega arith
-
-  -- the bytes of their number
-  pub bytes-there : (n : ℕ) → n ≡ of4 a b c d → (a ≡ n % 256) × (b ≡ n / 256 % 256) × (c ≡ n / 65536 % 256) × (d ≡ n / 16777216 % 256)
-  bytes-there n e =
-      let f : n ≡ a + (b + (c + d * 256) * 256) * 256 = omega arith in
-      let q₁ : n / 256 ≡ b + (c + d * 256) * 256 = omega arith in
-      let q₂ : n / 65536 ≡ c + d * 256 = omega arith in
-      let q₃ : n / 16777216 ≡ d = omega arith in (
-        sym (ap (λ (k : ℕ). k % 256) f ∙ low a (b + (c + d * 256) * 256) ha),
-        sym (ap (λ (k : ℕ). k % 256) q₁ ∙ low b (c + d * 256) hb),
-        sym (ap (λ (k : ℕ). k % 256) q₂ ∙ low c d hc),
-        sym (ap (λ (k : ℕ). k % 256) q₃ ∙ mod-eq-of-lt hd),
-      )
+-- an array that is a field of a struct has the length of its type
+pub unmapped : (X Y : Type 0) (f : X → Y) (l : List X) (n : ℕ) → length (map f l) ≡ n → length l ≡ n
+unmapped X Y f l n e = sym (length-map l f) ∙ e
 
 -- a count past the table reads as 0
 pub past-fits : (t : Tables) → length (t .semaphores) ≡ semaphoreLimit → (s : ℕ) → semaphoreLimit ≤ s → SFits w32 (countOf t s)
@@ -167,65 +152,61 @@ past-fits t l s h = subst (λ (x : Semaphore). SFits w32 (x .count)) (sym (List�
 
 -- Well formed bytes are the tables that they say
 
--- what holds in each part holds of every byte
-by-parts : (P : ℕ → Type 0)
-    → ((p : ℕ) → p < processLimit → P (statesAt + p))
-    → ((p : ℕ) → p < processLimit → P (prioritiesAt + p))
-    → ((s : ℕ) → s < semaphoreLimit → P (usedAt + s))
-    → ((s d i : ℕ) → s < semaphoreLimit → d < 4 → i ≡ countsAt + s * 4 + d → P i)
-    → ((i : ℕ) → i < processLimit → P (orderAt + i))
-    → P nextSemaphoreAt → P nextProcessAt
-    → (i : ℕ) → i < size → P i
-by-parts P states priorities used counts order semaphore process i h =
-    below? i prioritiesAt (λ k. part statesAt processLimit states (omega arith) (omega arith))
-    (λ k₁. below? i usedAt (λ k. part prioritiesAt processLimit priorities (omega arith) (omega arith))
-    (λ k₂. below? i countsAt (λ k. part usedAt semaphoreLimit used (omega arith) (omega arith))
-    (λ k₃. below? i orderAt (λ k. let e : (i - countsAt) / 4 * 4 + (i - countsAt) % 4 ≡ i - countsAt = div-add-mod' (i - countsAt) 4 in counts ((i - countsAt) / 4) ((i - countsAt) % 4) i (omega arith) (omega arith) (omega arith))
-    (λ k₄. below? i nextSemaphoreAt (λ k. part orderAt processLimit order (omega arith) (omega arith))
-    (λ k₅. below? i nextProcessAt (λ k. let e : nextSemaphoreAt ≡ i = omega arith in subst P e semaphore)
-    (λ k₆. let e : nextProcessAt ≡ i = omega arith in subst P e process))))))
-  where
-    part : (at n : ℕ) → ((j : ℕ) → j < n → P (at + j)) → at ≤ i → i < at + n → P i
-    part at n f lo hi = let e : at + (i - at) ≡ i = omega arith in subst P e (f (i - at) (omega arith))
+module _ (bs : List ℕ) (byte : (i : ℕ) → getD bs i 0 < 256) (wf : wellFormed bs ≡ true) where
+  abbrev said : Tables
+  said = fromBytes bs
 
-module _ (bs : List ℕ) (byte : (i : ℕ) → getD bs i 0 < 256) where
-  -- each byte of a word is the byte of the word
-  word-said : (k i d : ℕ) → d < 4 → i ≡ k + d → getD bs i 0 ≡ wordByte (wordAt bs k) d
-  word-said k i d h e =
-      let w = bytes-there (getD bs k 0) (getD bs (k + 1) 0) (getD bs (k + 2) 0) (getD bs (k + 3) 0) (byte k) (byte (k + 1)) (byte (k + 2)) (byte (k + 3)) (wordAt bs k) refl in
-      either d 0 (λ q. let z : i ≡ k = omega arith in rw (z, q) (w .0))
-      (λ n0. either d 1 (λ q. let z : i ≡ k + 1 = omega arith in rw (z, q) (w .1))
-      (λ n1. either d 2 (λ q. let z : i ≡ k + 2 = omega arith in rw (z, q) (w .2))
-      (λ n2. let q : d ≡ 3 = omega arith in let z : i ≡ k + 3 = omega arith in rw (z, q) (w .3))))
+  state : (p : ℕ) → p < processLimit → stateOf said p ≡ byteState (getD bs (statesAt + p) 0)
+  state p h = ap (λ (x : Process). x .state) (process-said bs p h)
 
-  word-small : (k : ℕ) → wordAt bs k < 4294967296
-  word-small k = word-fits (getD bs k 0) (getD bs (k + 1) 0) (getD bs (k + 2) 0) (getD bs (k + 3) 0) (byte k) (byte (k + 1)) (byte (k + 2)) (byte (k + 3))
+  count : (s : ℕ) → s < semaphoreLimit → countOf said s ≡ toZ w32 (wordAt bs (countsAt + s * 4))
+  count s h = ap (λ (x : Semaphore). x .count) (semaphore-said bs s h)
 
-  pub stands-read : wellFormed bs ≡ true → Stands (fromBytes bs) bs
-  unfolding fromBytes
-  stands-read wf =
-      let state : (p : ℕ) → p < processLimit → stateOf (fromBytes bs) p ≡ byteState (getD bs (statesAt + p) 0) = λ p h. ap (λ (x : Process). x .state) (process-said bs p h) in
-      let count : (s : ℕ) → s < semaphoreLimit → countOf (fromBytes bs) s ≡ toZ w32 (wordAt bs (countsAt + s * 4)) = λ s h. ap (λ (x : Semaphore). x .count) (semaphore-said bs s h) in
+  word-kept : (s : ℕ) → s < semaphoreLimit → wordAt bs (countsAt + s * 4) ≡ ofZ w32 (countOf said s)
+  word-kept s h = let k : ℕ = countsAt + s * 4 in sym (ap (ofZ w32) (count s h) ∙ ofZ-toZ w32 (wordAt bs k) (record { fits = word-small bs k byte }))
+
+  held-said : Held said
+  held-said =
       record {
-        held = record {
-          slots = processes-long bs;
-          entries = semaphores-long bs;
-          places = order-long bs;
-          waits = λ p h. rw (state p h) (state-back (getD bs (statesAt + p) 0) (formed-state bs wf p h) .1);
-          fits = λ s. below? s semaphoreLimit (λ h. rw (count s h) (toZ-fits w32 (wordAt bs (countsAt + s * 4)) (record { fits = word-small (countsAt + s * 4) }))) (past-fits (fromBytes bs) (semaphores-long bs) s);
-          row = λ i h. rw (place-said bs i h) (formed-place bs wf i h);
-        };
-        long = formed-long bs wf;
-        bytes = by-parts (λ (i : ℕ). getD bs i 0 ≡ byteOf (fromBytes bs) i)
-            (λ p h. sym (state-byte (fromBytes bs) p h ∙ ap stateByte (state p h) ∙ state-back (getD bs (statesAt + p) 0) (formed-state bs wf p h) .0))
-            (λ p h. sym (priority-byte (fromBytes bs) p h ∙ ap (λ (x : Process). x .priority) (process-said bs p h)))
-            (λ s h. sym (used-byte (fromBytes bs) s h ∙ ap (λ (x : Semaphore). usedByte (x .used)) (semaphore-said bs s h) ∙ used-back (getD bs (usedAt + s) 0) (formed-flag bs wf s h)))
-            (λ s d i h k e. word-said (countsAt + s * 4) i d k e ∙ ap (λ (n : ℕ). wordByte n d) (sym (ap (ofZ w32) (count s h) ∙ ofZ-toZ w32 (wordAt bs (countsAt + s * 4)) (record { fits = word-small (countsAt + s * 4) }))) ∙ sym (count-byte (fromBytes bs) s d i h k e))
-            (λ i h. sym (place-byte (fromBytes bs) i h ∙ place-said bs i h))
-            refl
-            refl;
+        slots = processes-long bs;
+        entries = semaphores-long bs;
+        places = order-long bs;
+        waits = λ p h. rw (state p h) (state-back (getD bs (statesAt + p) 0) (formed-state bs wf p h) .1);
+        fits = λ s. below? s semaphoreLimit (λ h. rw (count s h) (toZ-fits w32 _ (record { fits = word-small bs (countsAt + s * 4) byte }))) (past-fits said (semaphores-long bs) s);
+        row = λ i h. rw (place-said bs i h) (formed-place bs wf i h);
       }
 
+  -- Each part
+
+  state-kept : (p i : ℕ) → p < processLimit → i ≡ statesAt + p → getD bs i 0 ≡ byteOf said i
+  state-kept p i h e = sym (state-byte said p i h e ∙ ap stateByte (state p h) ∙ rw e (state-back (getD bs (statesAt + p) 0) (formed-state bs wf p h) .0))
+
+  priority-kept : (p i : ℕ) → p < processLimit → i ≡ prioritiesAt + p → getD bs i 0 ≡ byteOf said i
+  priority-kept p i h e = sym (priority-byte said p i h e ∙ ap (λ (x : Process). x .priority) (process-said bs p h) ∙ rw e refl)
+
+  used-kept : (s i : ℕ) → s < semaphoreLimit → i ≡ usedAt + s → getD bs i 0 ≡ byteOf said i
+  used-kept s i h e = sym (used-byte said s i h e ∙ ap (λ (x : Semaphore). usedByte (x .used)) (semaphore-said bs s h) ∙ rw e (used-back (getD bs (usedAt + s) 0) (formed-flag bs wf s h)))
+
+  count-kept : (s d i : ℕ) → s < semaphoreLimit → d < 4 → i ≡ countsAt + s * 4 + d → getD bs i 0 ≡ byteOf said i
+  count-kept s d i h hd e = sym (count-byte said s d i h hd e ∙ rw e (sym (word-said bs (countsAt + s * 4) byte d hd ∙ ap (λ (n : ℕ). wordByte n d) (word-kept s h))))
+
+  place-kept : (j i : ℕ) → j < processLimit → i ≡ orderAt + j → getD bs i 0 ≡ byteOf said i
+  place-kept j i h e = sym (place-byte said j i h e ∙ place-said bs j h ∙ rw e refl)
+
+  byte-kept : (i : ℕ) → i < size → getD bs i 0 ≡ byteOf said i
+  unfolding fromBytes
+  byte-kept i h =
+      below? i prioritiesAt (λ k. state-kept (i - statesAt) i (omega arith) (omega arith))
+      (λ k₁. below? i usedAt (λ k. priority-kept (i - prioritiesAt) i (omega arith) (omega arith))
+      (λ k₂. below? i countsAt (λ k. used-kept (i - usedAt) i (omega arith) (omega arith))
+      (λ k₃. below? i orderAt (λ k. let e = div-add-mod' (i - countsAt) 4 in count-kept ((i - countsAt) / 4) ((i - countsAt) % 4) i (omega arith) (omega arith) (omega arith))
+      (λ k₄. below? i nextSemaphoreAt (λ k. place-kept (i - orderAt) i (omega arith) (omega arith))
+      (λ k₅. below? i nextProcessAt (λ k. let e : i ≡ nextSemaphoreAt = omega arith in rw e refl)
+      (λ k₆. let e : i ≡ nextProcessAt = omega arith in rw e refl))))))
+
+  pub stands-read : Stands said bs
+  stands-read = record { held = held-said; long = formed-long bs wf; bytes = byte-kept }
+
   -- a round trip from bytes
-  pub bytes-back : wellFormed bs ≡ true → toBytes (fromBytes bs) ≡ bs
-  bytes-back wf = let st = stands-read wf in same-bytes (fromBytes bs) (toBytes (fromBytes bs)) bs (stands-made (fromBytes bs) (st .held)) st
+  pub bytes-back : toBytes said ≡ bs
+  bytes-back = same-bytes said (toBytes said) bs (stands-made said held-said) stands-read

@@ -1,7 +1,7 @@
 -- What each field of the lent bytes tells. Assumes nothing.
-use Prim.Native.Nat.{_%_, _*_, _+_, _-_, _/_, _<_, _≤_, ℕ}
+use Prim.Native.Nat.{_*_, _+_, _-_, _<_, _≤_, ℕ}
 use native.Mathlib.Omega.{arith}
-use native.Mathlib.Nat.{div-add-mod', mod-eq-of-lt, zero-add}
+use native.Mathlib.Nat.{zero-add}
 use mathlib.Core.Path.{_∙_, _≡_, ap, refl, sym}
 use mathlib.Core.Bool.{Bool, false, true}
 use mathlib.Core.List.{List}
@@ -18,8 +18,9 @@ use Rattle.tables.specs.declared.Tables.{Tables}
 use Rattle.tables.specs.Limits.{processLimit, semaphoreLimit}
 use Rattle.tables.specs.Readers.{countOf, isUsed, priorityOf, process, semaphore, stateOf}
 use Rattle.layout.specs.Offsets.{countsAt, nextProcessAt, nextSemaphoreAt, orderAt, prioritiesAt, statesAt, usedAt}
-use Rattle.layout.specs.Bytes.{byteState, of4, processAt, semaphoreAt, stateByte, usedByte, wordAt, wordByte}
+use Rattle.layout.specs.Bytes.{byteState, processAt, semaphoreAt, stateByte, usedByte, wordAt}
 use Rattle.layout.specs.Stands.{Named, Stands, Tells}
+use Rattle.layout.proofs.Words.{word-read}
 use Rattle.layout.proofs.Regions.{count-byte, place-byte, priority-byte, state-byte, used-byte}
 
 -- One entry as bytes, and back
@@ -38,31 +39,17 @@ pub used-there : (u : Bool) → eqb (usedByte u) 1 ≡ u
 used-there true = refl
 used-there false = refl
 
-pub word-there : (n : ℕ) → n < 4294967296 → of4 (n % 256) (n / 256 % 256) (n / 65536 % 256) (n / 16777216 % 256) ≡ n
-word-there n h =
-    let q₁ : ℕ = n / 256 in
-    let q₂ : ℕ = n / 65536 in
-    let q₃ : ℕ = n / 16777216 in
-    let d₂ : q₁ / 256 ≡ q₂ = omega arith in
-    let d₃ : q₂ / 256 ≡ q₃ = omega arith in
-    let m₃ : q₃ % 256 ≡ q₃ = mod-eq-of-lt (omega arith) in
-    omega (arith, div-add-mod' n 256, div-add-mod' q₁ 256, div-add-mod' q₂ 256)
-
--- a word whose bytes stand
-pub word-read : (bs : List ℕ) (k n : ℕ) → n < 4294967296 → ((i d : ℕ) → d < 4 → i ≡ k + d → getD bs i 0 ≡ wordByte n d) → wordAt bs k ≡ n
-word-read bs k n h at = rw (at k 0 (omega arith) (omega arith), at (k + 1) 1 (omega arith) refl, at (k + 2) 2 (omega arith) refl, at (k + 3) 3 (omega arith) refl) (word-there n h)
-
 -- Of bytes that are tables
 
 module _ (t : Tables) (bs : List ℕ) (st : Stands t bs) where
   pub state-stands : (p : ℕ) → p < processLimit → getD bs (statesAt + p) 0 ≡ stateByte (stateOf t p)
-  state-stands p h = st .bytes (statesAt + p) (omega arith) ∙ state-byte t p h
+  state-stands p h = st .bytes (statesAt + p) (omega arith) ∙ state-byte t p (statesAt + p) h refl
 
   pub state-read : (p : ℕ) → p < processLimit → getD bs p 0 ≡ stateByte (stateOf t p)
   state-read p h = ap (λ (z : ℕ). getD bs z 0) (sym (zero-add p)) ∙ state-stands p h
 
   pub priority-read : (p : ℕ) → p < processLimit → getD bs (prioritiesAt + p) 0 ≡ priorityOf t p
-  priority-read p h = st .bytes (prioritiesAt + p) (omega arith) ∙ priority-byte t p h
+  priority-read p h = st .bytes (prioritiesAt + p) (omega arith) ∙ priority-byte t p (prioritiesAt + p) h refl
 
   pub process-read : (p : ℕ) → p < processLimit → processAt bs p ≡ process t p
   process-read p h =
@@ -70,31 +57,30 @@ module _ (t : Tables) (bs : List ℕ) (st : Stands t bs) where
       rw (e, priority-read p h)
 
   pub used-stands : (s : ℕ) → s < semaphoreLimit → getD bs (usedAt + s) 0 ≡ usedByte (isUsed t s)
-  used-stands s h = st .bytes (usedAt + s) (omega arith) ∙ used-byte t s h
+  used-stands s h = st .bytes (usedAt + s) (omega arith) ∙ used-byte t s (usedAt + s) h refl
 
   pub used-read : (s : ℕ) → s < semaphoreLimit → eqb (getD bs (usedAt + s) 0) 1 ≡ isUsed t s
   used-read s h = ap (λ (z : ℕ). eqb z 1) (used-stands s h) ∙ used-there (isUsed t s)
 
-  count-stands : (s d i : ℕ) → s < semaphoreLimit → d < 4 → i ≡ countsAt + s * 4 + d → getD bs i 0 ≡ wordByte (ofZ w32 (countOf t s)) d
-  count-stands s d i h k e = st .bytes i (omega arith) ∙ count-byte t s d i h k e
-
   pub count-read : (s : ℕ) → s < semaphoreLimit → toZ w32 (wordAt bs (countsAt + s * 4)) ≡ countOf t s
   count-read s h =
-      let f : SFits w32 (countOf t s) = st .held .fits s in
-      ap (toZ w32) (word-read bs (countsAt + s * 4) (ofZ w32 (countOf t s)) (ofZ-fits w32 (countOf t s) f .fits) (λ i d. count-stands s d i h)) ∙ toZ-ofZ w32 (countOf t s) f
+      let k : ℕ = countsAt + s * 4 in
+      let c : ℤ = countOf t s in
+      let f : SFits w32 c = st .held .fits s in
+      ap (toZ w32) (word-read bs k (ofZ w32 c) (ofZ-fits w32 c f .fits) (λ d hd. st .bytes (k + d) (omega arith) ∙ count-byte t s d (k + d) h hd refl)) ∙ toZ-ofZ w32 c f
 
   pub semaphore-read : (s : ℕ) → s < semaphoreLimit → semaphoreAt bs s ≡ semaphore t s
   semaphore-read s h = rw (used-read s h, count-read s h)
 
   pub place-read : (i : ℕ) → i < processLimit → getD bs (orderAt + i) 0 ≡ getD (t .order) i 0
-  place-read i h = st .bytes (orderAt + i) (omega arith) ∙ place-byte t i h
+  place-read i h = st .bytes (orderAt + i) (omega arith) ∙ place-byte t i (orderAt + i) h refl
 
 -- As readers
 
 module _ (bs : List ℕ) where
-  pub process-tells : (p : ℕ) → p < processLimit → Tells (λ t. process t p) bs (record { state = byteState (getD bs p 0); priority = getD bs (prioritiesAt + p) 0 })
+  pub process-tells : (p : ℕ) → p < processLimit → Tells (λ t. process t p) bs (processAt bs p)
   unfolding Tells
-  process-tells p h t st = ap (λ (i : ℕ). record { state = byteState (getD bs i 0); priority = getD bs (prioritiesAt + p) 0 }) (sym (zero-add p)) ∙ process-read t bs st p h
+  process-tells p h t st = process-read t bs st p h
 
   pub used-tells : (s : ℕ) → s < semaphoreLimit → Tells (λ t. isUsed t s) bs (eqb (getD bs (usedAt + s) 0) 1)
   unfolding Tells

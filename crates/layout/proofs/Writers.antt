@@ -59,9 +59,6 @@ held-place t h j q hj hq =
       row = λ k hk. entry (t .order) j q 0 (omega (arith, h .places)) (λ (z : ℕ). z < processLimit) hq k (h .row k hk);
     }
 
-held-cursors : (t : Tables) → Held t → (s p : ℕ) → Held (withCursors t s p)
-held-cursors t h s p = record { slots = h .slots; entries = h .entries; places = h .places; waits = h .waits; fits = h .fits; row = h .row }
-
 -- What stands at each byte after a change: a part names its own bytes, and the test that bounds it closes all others
 
 module _ (t : Tables) where
@@ -96,21 +93,20 @@ module _ (t : Tables) where
 -- Each field
 
 module _ (t : Tables) (bs : List ℕ) (st : Stands t bs) where
-  put-state : (p : ℕ) (s : State) → p < processLimit → Named s → Stands (withState t p s) (set bs p (stateByte s))
+  put-state : (p : ℕ) (s : State) → p < processLimit → Named s → Stands (withState t p s) (set bs (statesAt + p) (stateByte s))
   put-state p s h named =
       let x : Process = record { state = s; priority = priorityOf t p } in
       let hp : p < length (t .processes) = omega (arith, st .held .slots) in
-      let z : statesAt + p ≡ p = omega arith in
-      put-byte t (withState t p s) bs st (held-process t (st .held) p x h named) p (stateByte s) (omega arith)
-      (ap (byteOf (withState t p s)) (sym z) ∙ state-byte (withState t p s) p h ∙ here (t .processes) p x freeSlot hp (λ (y : Process). stateByte (y .state)))
-      (λ i q. process-same t p x hp i (λ e. absurd (q (e ∙ z))) (λ e. refl))
+      put-byte t (withState t p s) bs st (held-process t (st .held) p x h named) (statesAt + p) (stateByte s) (omega arith)
+      (state-byte (withState t p s) p (statesAt + p) h refl ∙ here (t .processes) p x freeSlot hp (λ (y : Process). stateByte (y .state)))
+      (λ i q. process-same t p x hp i (λ e. absurd (q e)) (λ e. refl))
 
   put-priority : (p v : ℕ) → p < processLimit → Stands (withPriority t p v) (set bs (prioritiesAt + p) v)
   put-priority p v h =
       let x : Process = record { state = stateOf t p; priority = v } in
       let hp : p < length (t .processes) = omega (arith, st .held .slots) in
       put-byte t (withPriority t p v) bs st (held-process t (st .held) p x h (st .held .waits p h)) (prioritiesAt + p) v (omega arith)
-      (priority-byte (withPriority t p v) p h ∙ here (t .processes) p x freeSlot hp (λ (y : Process). y .priority))
+      (priority-byte (withPriority t p v) p (prioritiesAt + p) h refl ∙ here (t .processes) p x freeSlot hp (λ (y : Process). y .priority))
       (λ i q. process-same t p x hp i (λ e. refl) (λ e. absurd (q e)))
 
   put-used : (s : ℕ) (u : Bool) → s < semaphoreLimit → Stands (withUsed t s u) (set bs (usedAt + s) (usedByte u))
@@ -118,7 +114,7 @@ module _ (t : Tables) (bs : List ℕ) (st : Stands t bs) where
       let x : Semaphore = record { used = u; count = countOf t s } in
       let hs : s < length (t .semaphores) = omega (arith, st .held .entries) in
       put-byte t (withUsed t s u) bs st (held-semaphore t (st .held) s x h (st .held .fits s)) (usedAt + s) (usedByte u) (omega arith)
-      (used-byte (withUsed t s u) s h ∙ here (t .semaphores) s x freeSemaphore hs (λ (y : Semaphore). usedByte (y .used)))
+      (used-byte (withUsed t s u) s (usedAt + s) h refl ∙ here (t .semaphores) s x freeSemaphore hs (λ (y : Semaphore). usedByte (y .used)))
       (λ i q. semaphore-same t s x hs i (λ e. absurd (q e)) (λ d hd e. refl))
 
   put-count : (s : ℕ) (c : ℤ) → s < semaphoreLimit → SFits w32 c → Stands (withCount t s c) (store4 bs (countsAt + s * 4) (ofZ w32 c))
@@ -126,7 +122,7 @@ module _ (t : Tables) (bs : List ℕ) (st : Stands t bs) where
       let x : Semaphore = record { used = isUsed t s; count = c } in
       let hs : s < length (t .semaphores) = omega (arith, st .held .entries) in
       put-word t (withCount t s c) bs st (held-semaphore t (st .held) s x h f) (countsAt + s * 4) (ofZ w32 c) (omega arith)
-      (λ i d hd e. count-byte (withCount t s c) s d i h hd e ∙ here (t .semaphores) s x freeSemaphore hs (λ (y : Semaphore). wordByte (ofZ w32 (y .count)) d))
+      (λ d hd. count-byte (withCount t s c) s d (countsAt + s * 4 + d) h hd refl ∙ here (t .semaphores) s x freeSemaphore hs (λ (y : Semaphore). wordByte (ofZ w32 (y .count)) d))
       (λ i q. semaphore-same t s x hs i (λ e. refl) (λ d hd e. absurd (q d hd e)))
 
   put-place : (j q : ℕ) → j < processLimit → q < processLimit → Stands (withOrder t (set (t .order) j q)) (set bs (orderAt + j) q)
@@ -134,24 +130,24 @@ module _ (t : Tables) (bs : List ℕ) (st : Stands t bs) where
       let ho : j < length (t .order) = omega (arith, st .held .places) in
       let t′ : Tables = withOrder t (set (t .order) j q) in
       put-byte t t′ bs st (held-place t (st .held) j q h hq) (orderAt + j) q (omega arith)
-      (place-byte t′ j h ∙ getD-set-same (t .order) j q 0 ho) (place-same t j q ho)
+      (place-byte t′ j (orderAt + j) h refl ∙ getD-set-same (t .order) j q 0 ho) (place-same t j q ho)
 
 -- As writers
 
 module _ (bs : List ℕ) where
-  pub state-turns : (p : ℕ) (s : State) → p < processLimit → Named s → Turns (λ t. withState t p s) bs (set bs p (stateByte s))
+  pub state-turns : (p : ℕ) (s : State) → p < processLimit → Named s → Turns (λ t. withState t p s) bs (set bs (statesAt + p) (stateByte s))
   unfolding Turns
   state-turns p s h named t st = put-state t bs st p s h named
 
-  pub process-turns : (p : ℕ) (x : Process) → p < processLimit → Named (x .state) → Turns (λ t. withProcess t p x) bs (set (set bs p (stateByte (x .state))) (prioritiesAt + p) (x .priority))
+  pub process-turns : (p : ℕ) (x : Process) → p < processLimit → Named (x .state) → Turns (λ t. withProcess t p x) bs (set (set bs (statesAt + p) (stateByte (x .state))) (prioritiesAt + p) (x .priority))
   unfolding Turns
   process-turns p x h named t st =
       let y : Process = record { state = x .state; priority = priorityOf t p } in
       let hp : p < length (t .processes) = omega (arith, st .held .slots) in
-      let b : List ℕ = set (set bs p (stateByte (x .state))) (prioritiesAt + p) (x .priority) in
+      let b : List ℕ = set (set bs (statesAt + p) (stateByte (x .state))) (prioritiesAt + p) (x .priority) in
       subst (λ (z : List Process). Stands (withProcesses t z) b) (set-set (t .processes) p y x)
       (subst (λ (z : State). Stands (withProcess (withState t p (x .state)) p (record { state = z; priority = x .priority })) b) (here (t .processes) p y freeSlot hp (λ (z : Process). z .state))
-      (put-priority (withState t p (x .state)) (set bs p (stateByte (x .state))) (put-state t bs st p (x .state) h named) p (x .priority) h))
+      (put-priority (withState t p (x .state)) (set bs (statesAt + p) (stateByte (x .state))) (put-state t bs st p (x .state) h named) p (x .priority) h))
 
   pub used-turns : (s : ℕ) (u : Bool) → s < semaphoreLimit → Turns (λ t. withUsed t s u) bs (set bs (usedAt + s) (usedByte u))
   unfolding Turns
@@ -168,13 +164,13 @@ module _ (bs : List ℕ) where
   pub next-semaphore-turns : (s : ℕ) → Turns (λ t. withNextSemaphore t s) bs (set bs nextSemaphoreAt s)
   unfolding Turns
   next-semaphore-turns s t st =
-      put-byte t (withNextSemaphore t s) bs st (held-cursors t (st .held) s (t .«next_process»)) nextSemaphoreAt s (omega arith) refl
+      put-byte t (withNextSemaphore t s) bs st (st .held) nextSemaphoreAt s (omega arith) refl
       (λ i q. cursor-same t s (t .«next_process») i (λ e. absurd (q e)) (λ e. refl))
 
   pub next-process-turns : (p : ℕ) → Turns (λ t. withNextProcess t p) bs (set bs nextProcessAt p)
   unfolding Turns
   next-process-turns p t st =
-      put-byte t (withNextProcess t p) bs st (held-cursors t (st .held) (t .«next_semaphore») p) nextProcessAt p (omega arith) refl
+      put-byte t (withNextProcess t p) bs st (st .held) nextProcessAt p (omega arith) refl
       (λ i q. cursor-same t (t .«next_semaphore») p i (λ e. refl) (λ e. absurd (q e)))
 
 -- a semaphore written whole: its used flag, then its count

@@ -1,16 +1,19 @@
 -- Code works on the lent bytes, and is spoken of by the tables that they stand for.
-use Prim.Native.Nat.{ℕ, _<_}
+use Prim.Native.Nat.{ℕ, _-_, _/_, _<_, _≤_}
 use mathlib.Core.Path.{_≡_}
 use mathlib.Core.List.{List}
 use lib.ListN.{getD, length}
+use mir.Syntax.{w32}
+use mir.Val.{SFits}
 use Rattle.tables.specs.declared.State.{State}
 use Rattle.tables.specs.declared.State.the-variants.{Free, Current, Ready, Suspended, Waiting}
+use Rattle.tables.specs.declared.Process.{Process}
+use Rattle.tables.specs.declared.Semaphore.{Semaphore}
 use Rattle.tables.specs.declared.Tables.{Tables}
 use Rattle.tables.specs.Limits.{processLimit, semaphoreLimit}
-use Rattle.tables.specs.Readers.{stateOf}
-use Rattle.tables.specs.Counts.{CountsFit}
+use Rattle.tables.specs.Readers.{countOf, freeSemaphore, freeSlot}
 use Rattle.tables.specs.Sound.{Sound}
-use Rattle.layout.specs.Offsets.{size}
+use Rattle.layout.specs.Offsets.{countsAt, orderAt, size}
 use Rattle.layout.specs.Bytes.{byteOf}
 
 -- a state that has a byte
@@ -21,14 +24,21 @@ Named Ready = Unit
 Named Suspended = Unit
 Named (Waiting s) = s < semaphoreLimit
 
--- what the bytes can hold
-pub record Held (t : Tables) : Type 0 where
-  pub slots : length (t .processes) ≡ processLimit
-  pub entries : length (t .semaphores) ≡ semaphoreLimit
-  pub places : length (t .order) ≡ processLimit
-  pub waits : (p : ℕ) → p < processLimit → Named (stateOf t p)
-  pub fits : CountsFit t
-  pub row : (i : ℕ) → i < processLimit → getD (t .order) i 0 < processLimit
+-- where byte i is a count's, the count fits its type
+unfoldable pub FitsAt : Tables → ℕ → Type 0
+FitsAt t i = countsAt ≤ i → i < orderAt → SFits w32 (countOf t ((i - countsAt) / 4))
+
+-- what the bytes can hold, said of the lists alone: a change of anything else keeps it
+pub record HeldIn (processes : List Process) (semaphores : List Semaphore) (order : List ℕ) : Type 0 where
+  pub slots : length processes ≡ processLimit
+  pub entries : length semaphores ≡ semaphoreLimit
+  pub places : length order ≡ processLimit
+  pub waits : (p : ℕ) → p < processLimit → Named (getD processes p freeSlot .state)
+  pub fits : (s : ℕ) → SFits w32 (getD semaphores s freeSemaphore .count)
+  pub row : (i : ℕ) → i < processLimit → getD order i 0 < processLimit
+
+abbrev pub Held : Tables → Type 0
+Held t = HeldIn (t .processes) (t .semaphores) (t .order)
 
 -- the lent bytes are these tables
 pub record Stands (t : Tables) (bs : List ℕ) : Type 0 where

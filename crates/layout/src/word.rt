@@ -4,7 +4,7 @@ ghost use Prim.Native.Nat.{_+_, _≤_};
 ghost use lib.ListN.{length};
 ghost use mir.Syntax.{w32};
 ghost use mir.Val.{ofZ, toZ};
-ghost use Rattle.layout.specs.Bytes.{of4, store4, wordAt};
+ghost use Rattle.layout.specs.Bytes.{of4, store4, wordAt, wordByte};
 
 fn word(a: u8, b: u8, c: u8, d: u8) -> u32
     ensures { λ r. ⌜ r ≡ of4 a b c d ⌝ }
@@ -27,6 +27,22 @@ pub fn put_word(bytes: &mut [u8], k: usize, u: u32)
     bytes[k + 1] = (u / 256 % 256) as u8;
     bytes[k + 2] = (u / 65536 % 256) as u8;
     bytes[k + 3] = (u / 16777216 % 256) as u8;
+}
+
+// Byte `d` of a word, low byte first.
+pub fn word_byte(u: u32, d: usize) -> u8
+    ensures { λ r. ⌜ r ≡ wordByte u d ⌝ }
+{
+    if d == 0 {
+        return (u % 256) as u8;
+    }
+    if d == 1 {
+        return (u / 256 % 256) as u8;
+    }
+    if d == 2 {
+        return (u / 65536 % 256) as u8;
+    }
+    (u / 16777216 % 256) as u8
 }
 
 pub fn signed(u: u32) -> i32

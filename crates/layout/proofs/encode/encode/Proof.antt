@@ -1,51 +1,81 @@
+-- The bytes before i are those of the tables, and the counts among them fit. Assumes nothing.
+use Prim.Native.Nat.{_*_, _+_, _-_, _/_, _<_, _≤_, ℕ}
 use native.Mathlib.Omega.{arith}
-use mathlib.Core.Path.{_∙_, _≡_, refl, sym}
-use lib.ListN.{length, length-set}
+use mathlib.Core.Path.{_≡_, refl, subst, sym}
+use lib.ListN.{length, length-set, take}
+use mir.Syntax.{w32}
+use mir.Val.{SFits}
 use borrow.Author.Needs.{needs}
-use Rattle.layout.specs.Offsets.{nextProcessAt, nextSemaphoreAt, size}
+use Rattle.lists.specs.Numbers.{listed}
+use Rattle.tables.specs.Limits.{semaphoreLimit}
+use Rattle.tables.specs.Readers.{countOf}
+use Rattle.lists.proofs.Bools.{below?, either}
+use Rattle.lists.proofs.NumberLaws.{listed-done, listed-next}
+use Rattle.layout.specs.Bytes.{byteOf, toBytes}
+use Rattle.layout.specs.Offsets.{countsAt, size}
+use Rattle.layout.specs.Stands.{FitsAt}
+use Rattle.layout.proofs.Image.{past-fits, unmapped}
 use Rattle.layout.proofs.encode.encode.Statement.{statement}
-use Rattle.layout.proofs.BegunLaws.{begun-all, begun-next}
 use Rattle.layout.proofs.encode.encode.Tie as tie
 
-put-states-requires : tie.Need-put-states-requires
-put-states-requires c κs = search needs
+abbrev Inv-loop : tie.InvT-loop
+Inv-loop bytes₀ t i₀ bytes i = (i ≤ size) × (length bytes ≡ size) × (take i bytes ≡ take i (listed 0 size (byteOf t))) × ((j : ℕ) → j < i → FitsAt t j)
 
-put-priorities-requires : tie.Need-put-priorities-requires
-put-priorities-requires c κs = search needs
+abbrev μ-loop : tie.MeasureT-loop
+μ-loop bytes₀ t i₀ bytes i = size - i
 
-put-flags-requires : tie.Need-put-flags-requires
-put-flags-requires c κs = search needs
+loop-holds : tie.Need-loop-holds Inv-loop μ-loop
+loop-holds c = (search needs, search needs, refl, λ j h. absurd (omega arith))
 
-put-counts-requires : tie.Need-put-counts-requires
-put-counts-requires c κs = search needs
+byte-of-requires : tie.Need-byte-of-requires Inv-loop μ-loop
+byte-of-requires c κs = search needs
 
-put-order-requires : tie.Need-put-order-requires
-put-order-requires c κs = search needs
-
-slice-write-bytes : tie.Need-slice-write-bytes
+slice-write-bytes : tie.Need-slice-write-bytes Inv-loop μ-loop
 slice-write-bytes c = search needs
 
-slice-write-bytes-2 : tie.Need-slice-write-bytes-2
-slice-write-bytes-2 c = let l : length (c .before .before .put-order .last .0) ≡ size = c .before .before .put-order .ensures .long in simp length-set (omega arith)
+add-i : tie.Need-add-i Inv-loop μ-loop
+add-i c = search needs
 
-same-length : tie.Need-same-length
-same-length c = let l : length (c .before .before .put-order .last .0) ≡ size = c .before .before .put-order .ensures .long in simp length-set (l ∙ sym (c .before .before .before .before .before .before .before .before .before .before .before .before .before .before .before .before .before .before .before .before .before .pre))
+loop-less : tie.Need-loop-less Inv-loop μ-loop
+loop-less c = search needs
 
-returns : tie.Need-returns
+loop-again : tie.Need-loop-again Inv-loop μ-loop
+loop-again c =
+    let t = c .before .before .before .before .args .t in
+    let bs = c .before .before .loop .bytes in
+    let i = c .before .before .loop .i in
+    let inv = c .before .before .loop .inv in (
+      search needs,
+      simp length-set (inv .1),
+      listed-next (byteOf t) size bs (inv .1) i 0 _ (inv .2) (omega arith) (c .byte-of .ensures .0),
+      (λ j h. either j i (λ e. subst (FitsAt t) (sym e) (c .byte-of .ensures .1)) (λ n. inv .3 j (omega arith))),
+    )
+
+same-length : tie.Need-same-length Inv-loop μ-loop
+same-length c = search needs
+
+returns : tie.Need-returns Inv-loop μ-loop
+unfolding FitsAt toBytes
 returns c =
-    let t = c .before .before .before .before .before .before .before .before .before .before .before .before .before .before .before .before .before .before .before .before .before .args .t in
-    (begun-all t _ (begun-next t nextProcessAt _ _ (begun-next t nextSemaphoreAt _ _ (c .before .before .put-order .ensures) (omega arith) refl) (omega arith) refl), c .before .before .before .before .before .before .put-counts .ensures .1)
+    let t = c .before .before .before .args .t in
+    let inv = c .before .loop .inv in
+    let long : length (t .semaphores) ≡ semaphoreLimit = search (needs, unmapped) in
+    let fits : (s : ℕ) → s < semaphoreLimit → SFits w32 (countOf t s) = λ s h.
+    let e : (countsAt + s * 4 - countsAt) / 4 ≡ s = omega arith in
+    subst (λ (n : ℕ). SFits w32 (countOf t n)) e (inv .3 (countsAt + s * 4) (omega arith) (omega arith) (omega arith)) in
+    (listed-done (byteOf t) size (c .before .loop .bytes) (inv .1) (c .before .loop .i) (omega arith) (inv .2), λ s. below? s semaphoreLimit (fits s) (past-fits t long s))
 
 pub encode-spec : {M : Type 1} → statement M
 encode-spec =
     tie.close
     (tie.spec
-    put-states-requires
-    put-priorities-requires
-    put-flags-requires
-    put-counts-requires
-    put-order-requires
+    Inv-loop
+    μ-loop
+    loop-holds
+    byte-of-requires
     slice-write-bytes
-    slice-write-bytes-2
+    add-i
+    loop-less
+    loop-again
     same-length
     returns)
