@@ -1,6 +1,6 @@
 -- The tables fix every byte, and the bytes fix the tables. Assumes nothing.
 use Prim.Native.Nat.{_%_, _*_, _+_, _-_, _/_, _<_, _≤_, ℕ}
-use native.Mathlib.Nat.{add-mul-mod-self-right, div-add-mod', mod-eq-of-lt}
+use native.Mathlib.Nat.{div-add-mod'}
 use native.Mathlib.Omega.{arith}
 use mathlib.Core.Bool.{Bool, _&&_, false, true}
 use mathlib.Core.List.{List, map}
@@ -22,7 +22,7 @@ use Rattle.tables.specs.declared.State.{State}
 use Rattle.tables.specs.declared.State.the-variants.{Current, Free, Ready, Suspended, Waiting}
 use Rattle.lists.proofs.Bools.{and-in, below?, both, either}
 use Rattle.lists.proofs.NumberLaws.{all-at, all-true, listed-all, listed-at, listed-length}
-use Rattle.layout.specs.Bytes.{byteOf, byteState, flagPlain, fromBytes, of4, placeAt, placeNamed, processAt, semaphoreAt, stateByte, stateNamed, toBytes, usedByte, wellFormed, wordAt, wordByte}
+use Rattle.layout.specs.Bytes.{byteOf, byteState, flagPlain, fromBytes, placeAt, placeNamed, processAt, semaphoreAt, stateByte, stateNamed, toBytes, usedByte, wellFormed, wordAt, wordByte}
 use Rattle.layout.specs.Offsets.{countsAt, nextProcessAt, nextSemaphoreAt, orderAt, prioritiesAt, size, statesAt, usedAt}
 use Rattle.layout.specs.Stands.{Held, Named, Stands}
 use Rattle.layout.proofs.Words.{word-said, word-small}

@@ -3,7 +3,7 @@ use Prim.Native.Nat.{_%_, _*_, _+_, _/_, _<_, _≤_, suc, zero, ℕ}
 use native.Mathlib.Nat.{add-mul-mod-self-right, add-zero, div-add-mod', mod-eq-of-lt}
 use native.Mathlib.Omega.{arith}
 use mathlib.Core.List.{List}
-use mathlib.Core.Path.{_∙_, _≡_, ap, refl, sym}
+use mathlib.Core.Path.{_∙_, _≡_, ap, sym}
 use lib.ListN.{getD, length, length-set, set}
 use lib.Seq.{getD-set-other, getD-set-same}
 use Rattle.layout.specs.Bytes.{of4, store4, wordAt, wordByte}
@@ -18,7 +18,7 @@ by-four P a b c e (suc (suc (suc (suc n)))) h = absurd (omega arith)
 
 -- A number and its bytes
 
-word-there : (n : ℕ) → n < 4294967296 → of4 (n % 256) (n / 256 % 256) (n / 65536 % 256) (n / 16777216 % 256) ≡ n
+word-there : (n : ℕ) → n < 4294967296 → of4 (wordByte n 0) (wordByte n 1) (wordByte n 2) (wordByte n 3) ≡ n
 word-there n h =
     let q₁ : ℕ = n / 256 in
     let q₂ : ℕ = n / 65536 in
@@ -35,7 +35,7 @@ module _ (bs : List ℕ) (k : ℕ) where
   -- a word whose bytes stand
   pub word-read : (n : ℕ) → n < 4294967296 → ((d : ℕ) → d < 4 → getD bs (k + d) 0 ≡ wordByte n d) → wordAt bs k ≡ n
   word-read n h at =
-      let first : getD bs k 0 ≡ n % 256 = ap (λ (i : ℕ). getD bs i 0) (sym (add-zero k)) ∙ at 0 (omega arith) in
+      let first : getD bs k 0 ≡ wordByte n 0 = ap (λ (i : ℕ). getD bs i 0) (sym (add-zero k)) ∙ at 0 (omega arith) in
       rw (first, at 1 (omega arith), at 2 (omega arith), at 3 (omega arith)) (word-there n h)
 
   module _ (byte : (i : ℕ) → getD bs i 0 < 256) where
@@ -68,13 +68,13 @@ module _ (bs : List ℕ) (k : ℕ) where
 
 module _ (bs : List ℕ) (k n : ℕ) where
   abbrev one : List ℕ
-  one = set bs k (n % 256)
+  one = set bs k (wordByte n 0)
 
   abbrev two : List ℕ
-  two = set one (k + 1) (n / 256 % 256)
+  two = set one (k + 1) (wordByte n 1)
 
   abbrev three : List ℕ
-  three = set two (k + 2) (n / 65536 % 256)
+  three = set two (k + 2) (wordByte n 2)
 
   pub word-long : length (store4 bs k n) ≡ length bs
   word-long = simp length-set

@@ -52,7 +52,7 @@ of4 a b c d = a + b * 256 + c * 65536 + d * 16777216
 
 -- four bytes written from k on: a word
 abbrev pub store4 : List ℕ → ℕ → ℕ → List ℕ
-store4 bs k n = set (set (set (set bs k (n % 256)) (k + 1) (n / 256 % 256)) (k + 2) (n / 65536 % 256)) (k + 3) (n / 16777216 % 256)
+store4 bs k n = set (set (set (set bs k (wordByte n 0)) (k + 1) (wordByte n 1)) (k + 2) (wordByte n 2)) (k + 3) (wordByte n 3)
 
 -- byte i of the tables: each field ends where the next begins, and past the last field nothing stands. A count is a word in two's complement
 abbrev pub byteOf : Tables → ℕ → ℕ

@@ -12,23 +12,6 @@ fn word(a: u8, b: u8, c: u8, d: u8) -> u32
     (a as u32) + (b as u32) * 256 + (c as u32) * 65536 + (d as u32) * 16777216
 }
 
-pub fn word_at(bytes: &[u8], k: usize) -> u32
-    requires { ⌜ k + 4 ≤ length (now bytes) ⌝ }
-    ensures { λ r. ⌜ r ≡ wordAt (now (bytes .entry)) k ⌝ }
-{
-    word(bytes[k], bytes[k + 1], bytes[k + 2], bytes[k + 3])
-}
-
-pub fn put_word(bytes: &mut [u8], k: usize, u: u32)
-    requires { ⌜ k + 4 ≤ length (now bytes) ⌝ }
-    ensures { λ _. ⌜ now (bytes .exit) ≡ store4 (now (bytes .entry)) k u ⌝ }
-{
-    bytes[k] = (u % 256) as u8;
-    bytes[k + 1] = (u / 256 % 256) as u8;
-    bytes[k + 2] = (u / 65536 % 256) as u8;
-    bytes[k + 3] = (u / 16777216 % 256) as u8;
-}
-
 // Byte `d` of a word, low byte first.
 pub fn word_byte(u: u32, d: usize) -> u8
     ensures { λ r. ⌜ r ≡ wordByte u d ⌝ }
@@ -43,6 +26,23 @@ pub fn word_byte(u: u32, d: usize) -> u8
         return (u / 65536 % 256) as u8;
     }
     (u / 16777216 % 256) as u8
+}
+
+pub fn word_at(bytes: &[u8], k: usize) -> u32
+    requires { ⌜ k + 4 ≤ length (now bytes) ⌝ }
+    ensures { λ r. ⌜ r ≡ wordAt (now (bytes .entry)) k ⌝ }
+{
+    word(bytes[k], bytes[k + 1], bytes[k + 2], bytes[k + 3])
+}
+
+pub fn put_word(bytes: &mut [u8], k: usize, u: u32)
+    requires { ⌜ k + 4 ≤ length (now bytes) ⌝ }
+    ensures { λ _. ⌜ now (bytes .exit) ≡ store4 (now (bytes .entry)) k u ⌝ }
+{
+    bytes[k] = word_byte(u, 0);
+    bytes[k + 1] = word_byte(u, 1);
+    bytes[k + 2] = word_byte(u, 2);
+    bytes[k + 3] = word_byte(u, 3);
 }
 
 pub fn signed(u: u32) -> i32

@@ -2,9 +2,7 @@
 use Prim.Native.Nat.{_%_, _*_, _+_, _-_, _/_, _<_, _≤_, ℕ}
 use native.Mathlib.Nat.{div-add-mod'}
 use native.Mathlib.Omega.{arith}
-use mathlib.Core.Path.{_∙_, _≡_, ap, refl, sym}
-use lib.ListN.{getD}
-use lib.IntN.{ℤ}
+use mathlib.Core.Path.{_∙_, _≡_, ap, sym}
 use mir.Syntax.{w32}
 use mir.Val.{SFits, ofZ}
 use mir.ValLaws.{toZ-ofZ}
@@ -20,13 +18,9 @@ use Rattle.layout.proofs.encode.byte_of.Statement.{statement}
 use Rattle.layout.proofs.encode.byte_of.Tie as tie
 
 -- a byte that is no count's
-before-counts : (t : Tables) (i : ℕ) → i < countsAt → FitsAt t i
+beside : (t : Tables) (i : ℕ) → (countsAt ≤ i → i < orderAt → ⊥) → FitsAt t i
 unfolding FitsAt
-before-counts t i h lo hi = absurd (omega arith)
-
-behind-counts : (t : Tables) (i : ℕ) → orderAt ≤ i → FitsAt t i
-unfolding FitsAt
-behind-counts t i h lo hi = absurd (omega arith)
+beside t i away lo hi = absurd (away lo hi)
 
 sub-x : tie.Need-sub-x
 sub-x c = search needs
@@ -44,7 +38,7 @@ returns : tie.Need-returns
 returns c =
     let t = c .before .before .before .args .t1 in
     let i = c .before .before .before .args .i in
-    (c .state-byte .ensures ∙ sym (state-byte t (i - statesAt) i (omega arith) (omega arith)), before-counts t i (omega arith))
+    (c .state-byte .ensures ∙ sym (state-byte t (i - statesAt) i (omega arith) (omega arith)), beside t i (λ lo hi. omega arith))
 
 mul-x-2 : tie.Need-mul-x-2
 mul-x-2 c = search needs
@@ -56,7 +50,7 @@ returns-2 : tie.Need-returns-2
 returns-2 c =
     let t = c .before .before .before .args .t1 in
     let i = c .before .before .before .args .i in
-    (sym (priority-byte t (i - prioritiesAt) i (omega arith) (omega arith)), before-counts t i (omega arith))
+    (sym (priority-byte t (i - prioritiesAt) i (omega arith) (omega arith)), beside t i (λ lo hi. omega arith))
 
 mul-x-3 : tie.Need-mul-x-3
 mul-x-3 c = search needs
@@ -71,7 +65,7 @@ returns-3 : tie.Need-returns-3
 returns-3 c =
     let t = c .before .before .before .before .before .args .t1 in
     let i = c .before .before .before .before .before .args .i in
-    (bool-byte (isUsed t (i - usedAt)) ∙ sym (used-byte t (i - usedAt) i (omega arith) (omega arith)), before-counts t i (omega arith))
+    (bool-byte (isUsed t (i - usedAt)) ∙ sym (used-byte t (i - usedAt) i (omega arith) (omega arith)), beside t i (λ lo hi. omega arith))
 
 mul-x-4 : tie.Need-mul-x-4
 mul-x-4 c = search needs
@@ -104,14 +98,14 @@ returns-5 : tie.Need-returns-5
 returns-5 c =
     let t = c .before .before .before .before .before .before .args .t1 in
     let i = c .before .before .before .before .before .before .args .i in
-    (sym (place-byte t (i - orderAt) i (omega arith) (omega arith)), behind-counts t i (omega arith))
+    (sym (place-byte t (i - orderAt) i (omega arith) (omega arith)), beside t i (λ lo hi. omega arith))
 
 returns-6 : tie.Need-returns-6
 returns-6 c =
     let t = c .before .before .before .before .before .before .args .t1 in
     let i = c .before .before .before .before .before .before .args .i in
     let e : i ≡ nextSemaphoreAt = omega arith in
-    (ap (byteOf t) (sym e), behind-counts t i (omega arith))
+    (ap (byteOf t) (sym e), beside t i (λ lo hi. omega arith))
 
 returns-7 : tie.Need-returns-7
 returns-7 c =
@@ -119,7 +113,7 @@ returns-7 c =
     let i = c .before .before .before .before .before .before .args .i in
     let p : i < nextProcessAt + 1 = c .before .before .before .before .before .before .pre in
     let e : i ≡ nextProcessAt = omega arith in
-    (ap (byteOf t) (sym e), behind-counts t i (omega arith))
+    (ap (byteOf t) (sym e), beside t i (λ lo hi. omega arith))
 
 pub byte-of-spec : {M : Type 1} → statement M
 byte-of-spec =

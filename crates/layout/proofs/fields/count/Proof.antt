@@ -20,7 +20,10 @@ signed-requires : tie.Need-signed-requires
 signed-requires c κs = search needs
 
 returns : tie.Need-returns
-returns c = count-tells _ _ _ (c .before .before .before .pre .1) (toZ-ofZ w32 _ (record { sfits = c .signed .ok }) ∙ c .signed .ensures ∙ ap (toZ w32) (c .before .word-at .ensures))
+returns c =
+    let start = c .before .before .before in
+    let said = c .signed .ensures ∙ ap (toZ w32) (c .before .word-at .ensures) in
+    count-tells _ _ _ (start .pre .1) (toZ-ofZ w32 _ (record { sfits = c .signed .ok }) ∙ said)
 
 pub count-spec : {M : Type 1} → statement M
 count-spec = tie.close (tie.spec mul-word-at add-word-at word-at-requires signed-requires returns)

@@ -21,7 +21,10 @@ same-length : tie.Need-same-length
 same-length c = search needs
 
 returns : tie.Need-returns
-returns c = rw (c .before .before .put-word .ensures, c .before .before .before .unsigned .ensures, toZ-ofZ w32 _ (c .before .before .before .before .before .before .fits .count)) (count-turns _ _ _ (c .before .before .before .before .before .before .pre .1) (c .before .before .before .before .before .before .fits .count))
+returns c =
+    let start = c .before .before .before .before .before .before in
+    let f = start .fits .count in
+    rw (c .before .before .put-word .ensures, c .before .before .before .unsigned .ensures, toZ-ofZ w32 _ f) (count-turns _ _ _ (start .pre .1) f)
 
 pub put-count-spec : {M : Type 1} → statement M
 put-count-spec =

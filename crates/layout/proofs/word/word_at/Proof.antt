@@ -1,3 +1,4 @@
+-- The four bytes from k on, as `word` joins them. Assumes nothing.
 use borrow.Author.Needs.{needs}
 use Rattle.layout.proofs.word.word_at.Statement.{statement}
 use Rattle.layout.proofs.word.word_at.Tie as tie
