@@ -5,3 +5,4 @@ pub mod Regions
 pub mod Writers
 pub mod Readers
 pub mod Image
+pub mod Written

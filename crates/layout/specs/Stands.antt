@@ -1,5 +1,5 @@
 -- Code works on the lent bytes, and is spoken of by the tables that they stand for.
-use Prim.Native.Nat.{ℕ, _-_, _/_, _<_, _≤_}
+use Prim.Native.Nat.{ℕ, _<_}
 use mathlib.Core.Path.{_≡_}
 use mathlib.Core.List.{List}
 use lib.ListN.{getD, length}
@@ -11,9 +11,9 @@ use Rattle.tables.specs.declared.Process.{Process}
 use Rattle.tables.specs.declared.Semaphore.{Semaphore}
 use Rattle.tables.specs.declared.Tables.{Tables}
 use Rattle.tables.specs.Limits.{processLimit, semaphoreLimit}
-use Rattle.tables.specs.Readers.{countOf, freeSemaphore, freeSlot}
+use Rattle.tables.specs.Readers.{freeSemaphore, freeSlot}
 use Rattle.tables.specs.Sound.{Sound}
-use Rattle.layout.specs.Offsets.{countsAt, orderAt, size}
+use Rattle.layout.specs.Offsets.{size}
 use Rattle.layout.specs.Bytes.{byteOf}
 
 -- a state that has a byte
@@ -23,10 +23,6 @@ Named Current = Unit
 Named Ready = Unit
 Named Suspended = Unit
 Named (Waiting s) = s < semaphoreLimit
-
--- where byte i is a count's, the count fits its type
-unfoldable pub FitsAt : Tables → ℕ → Type 0
-FitsAt t i = countsAt ≤ i → i < orderAt → SFits w32 (countOf t ((i - countsAt) / 4))
 
 -- what the bytes can hold, said of the lists alone: a change of anything else keeps it
 pub record HeldIn (processes : List Process) (semaphores : List Semaphore) (order : List ℕ) : Type 0 where
