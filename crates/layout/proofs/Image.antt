@@ -31,7 +31,7 @@ use Rattle.layout.proofs.Readers.{byte-waiting, place-read, process-rea
 
 -- Tables stand in their bytes, and in no others
 
-pub bytes-long : (t : Tables) → length (toBytes t) ≡ size
+bytes-long : (t : Tables) → length (toBytes t) ≡ size
 unfolding toBytes
 bytes-long t = listed-length (byteOf t) 0 size
 
@@ -102,7 +102,7 @@ module _ (bs : List ℕ) (wf : wellFormed bs ≡ true) where
   pub formed-state : (p : ℕ) → p < processLimit → getD bs (statesAt + p) 0 < 4 + semaphoreLimit
   formed-state p h = ltb-true _ (4 + semaphoreLimit) (all-at (stateNamed bs) processLimit p (both (all processLimit (stateNamed bs)) _ rest .0) h)
 
-  pub formed-flag : (s : ℕ) → s < semaphoreLimit → getD bs (usedAt + s) 0 < 2
+  formed-flag : (s : ℕ) → s < semaphoreLimit → getD bs (usedAt + s) 0 < 2
   formed-flag s h = ltb-true _ 2 (all-at (flagPlain bs) semaphoreLimit s (both (all semaphoreLimit (flagPlain bs)) _ (both (all processLimit (stateNamed bs)) _ rest .1) .0) h)
 
   pub formed-place : (i : ℕ) → i < processLimit → getD bs (orderAt + i) 0 < processLimit

@@ -28,14 +28,14 @@ use Rattle.layout.proofs.Regions.{count-byte, place-byte, priority-byte
 pub byte-waiting : (b : ℕ) → 4 ≤ b → byteState b ≡ Waiting (b - 4)
 byte-waiting b h = rw (ne-eqb b 0 (omega arith), ne-eqb b 1 (omega arith), ne-eqb b 2 (omega arith), ne-eqb b 3 (omega arith))
 
-pub state-there : (s : State) → Named s → byteState (stateByte s) ≡ s
+state-there : (s : State) → Named s → byteState (stateByte s) ≡ s
 state-there Free h = refl
 state-there Current h = refl
 state-there Ready h = refl
 state-there Suspended h = refl
 state-there (Waiting q) h = rw (lt-ltb q semaphoreLimit h) (byte-waiting (4 + q) (omega arith) ∙ ap Waiting (omega arith))
 
-pub used-there : (u : Bool) → eqb (usedByte u) 1 ≡ u
+used-there : (u : Bool) → eqb (usedByte u) 1 ≡ u
 used-there true = refl
 used-there false = refl
 
@@ -45,10 +45,11 @@ module _ (t : Tables) (bs : List ℕ) (st : Stands t bs) where
   pub state-stands : (p : ℕ) → p < processLimit → getD bs (statesAt + p) 0 ≡ stateByte (stateOf t p)
   state-stands p h = st .bytes (statesAt + p) (omega arith) ∙ state-byte t p (statesAt + p) h refl
 
+  -- the same for code that names no offset: the states stand first
   pub state-read : (p : ℕ) → p < processLimit → getD bs p 0 ≡ stateByte (stateOf t p)
   state-read p h = ap (λ (z : ℕ). getD bs z 0) (sym (zero-add p)) ∙ state-stands p h
 
-  pub priority-read : (p : ℕ) → p < processLimit → getD bs (prioritiesAt + p) 0 ≡ priorityOf t p
+  priority-read : (p : ℕ) → p < processLimit → getD bs (prioritiesAt + p) 0 ≡ priorityOf t p
   priority-read p h = st .bytes (prioritiesAt + p) (omega arith) ∙ priority-byte t p (prioritiesAt + p) h refl
 
   pub process-read : (p : ℕ) → p < processLimit → processAt bs p ≡ process t p
@@ -59,10 +60,10 @@ module _ (t : Tables) (bs : List ℕ) (st : Stands t bs) where
   pub used-stands : (s : ℕ) → s < semaphoreLimit → getD bs (usedAt + s) 0 ≡ usedByte (isUsed t s)
   used-stands s h = st .bytes (usedAt + s) (omega arith) ∙ used-byte t s (usedAt + s) h refl
 
-  pub used-read : (s : ℕ) → s < semaphoreLimit → eqb (getD bs (usedAt + s) 0) 1 ≡ isUsed t s
+  used-read : (s : ℕ) → s < semaphoreLimit → eqb (getD bs (usedAt + s) 0) 1 ≡ isUsed t s
   used-read s h = ap (λ (z : ℕ). eqb z 1) (used-stands s h) ∙ used-there (isUsed t s)
 
-  pub count-read : (s : ℕ) → s < semaphoreLimit → toZ w32 (wordAt bs (countsAt + s * 4)) ≡ countOf t s
+  count-read : (s : ℕ) → s < semaphoreLimit → toZ w32 (wordAt bs (countsAt + s * 4)) ≡ countOf t s
   count-read s h =
       let k : ℕ = countsAt + s * 4 in
       let c : ℤ = countOf t s in

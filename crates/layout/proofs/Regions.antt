@@ -13,8 +13,8 @@ use Rattle.tables.specs.Limits.{processLimit, semaphoreLimit}
 use Rattle.tables.specs.Readers.{countOf, isUsed, priorityOf, stateOf}
 use Rattle.lists.proofs.Bools.{below?, either}
 use Rattle.layout.specs.Offsets.{countsAt, nextSemaphoreAt, orderAt, prioritiesAt, size, statesAt, usedAt}
-use Rattle.layout.specs.Bytes.{byteOf, stateByte, store4, usedByte, wordByte}
-use Rattle.layout.specs.Stands.{Held, Stands}
+use Rattle.layout.specs.Bytes.{byteOf, stateByte, usedByte, wordByte}
+use Rattle.layout.specs.Stands.{Held, Stands, store4}
 use Rattle.layout.proofs.Words.{word-beside, word-here, word-long}
 
 -- Each part: the tests of `byteOf` up to its own

@@ -6,7 +6,8 @@ use mathlib.Core.List.{List}
 use mathlib.Core.Path.{_∙_, _≡_, ap, sym}
 use lib.ListN.{getD, length, length-set, set}
 use lib.Seq.{getD-set-other, getD-set-same}
-use Rattle.layout.specs.Bytes.{of4, store4, wordAt, wordByte}
+use Rattle.layout.specs.Bytes.{of4, wordAt, wordByte}
+use Rattle.layout.specs.Stands.{store4}
 
 -- what holds of each of four
 by-four : (P : ℕ → Type 0) → P 0 → P 1 → P 2 → P 3 → (d : ℕ) → d < 4 → P d

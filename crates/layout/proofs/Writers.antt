@@ -20,8 +20,8 @@ use Rattle.tables.specs.Readers.{countOf, freeSemaphore, freeSlot, isUsed, prio
 use Rattle.tables.specs.Setters.{withCount, withCursors, withNextProcess, withNextSemaphore, withOrder, withPriority, withProcess, withProcesses, withSemaphore, withSemaphores, withState, withUsed}
 use Rattle.lists.proofs.Bools.{below?}
 use Rattle.layout.specs.Offsets.{countsAt, nextProcessAt, nextSemaphoreAt, orderAt, prioritiesAt, statesAt, usedAt}
-use Rattle.layout.specs.Bytes.{byteOf, stateByte, store4, usedByte, wordByte}
-use Rattle.layout.specs.Stands.{Held, Named, Stands, Turns}
+use Rattle.layout.specs.Bytes.{byteOf, stateByte, usedByte, wordByte}
+use Rattle.layout.specs.Stands.{Held, Named, Stands, Turns, store4}
 use Rattle.layout.proofs.Regions.{count-byte, entry, here, kept, place-byte, priority-byte, put-byte, put-word, state-byte, used-byte}
 
 -- What is held after a change

@@ -2,7 +2,7 @@
 use Prim.Native.Nat.{ℕ, _+_, _*_, _-_, _/_, _%_}
 use mathlib.Core.Bool.{Bool, true, false, _&&_}
 use mathlib.Core.List.{List}
-use lib.ListN.{getD, length, set}
+use lib.ListN.{getD, length}
 use lib.Dec.{eqb, ltb}
 use mir.Syntax.{w32}
 use mir.Val.{ofZ, toZ}
@@ -49,10 +49,6 @@ wordByte n d =
 -- the number of four bytes, low byte first
 abbrev pub of4 : ℕ → ℕ → ℕ → ℕ → ℕ
 of4 a b c d = a + b * 256 + c * 65536 + d * 16777216
-
--- four bytes written from k on: a word
-abbrev pub store4 : List ℕ → ℕ → ℕ → List ℕ
-store4 bs k n = set (set (set (set bs k (wordByte n 0)) (k + 1) (wordByte n 1)) (k + 2) (wordByte n 2)) (k + 3) (wordByte n 3)
 
 -- byte i of the tables: each field ends where the next begins, and past the last field nothing stands. A count is a word in two's complement
 abbrev pub byteOf : Tables → ℕ → ℕ

@@ -1,8 +1,8 @@
 -- Code works on the lent bytes, and is spoken of by the tables that they stand for.
-use Prim.Native.Nat.{ℕ, _<_}
+use Prim.Native.Nat.{ℕ, _+_, _<_}
 use mathlib.Core.Path.{_≡_}
 use mathlib.Core.List.{List}
-use lib.ListN.{getD, length}
+use lib.ListN.{getD, length, set}
 use mir.Syntax.{w32}
 use mir.Val.{SFits}
 use Rattle.tables.specs.declared.State.{State}
@@ -14,7 +14,11 @@ use Rattle.tables.specs.Limits.{processLimit, semaphoreLimit}
 use Rattle.tables.specs.Readers.{freeSemaphore, freeSlot}
 use Rattle.tables.specs.Sound.{Sound}
 use Rattle.layout.specs.Offsets.{size}
-use Rattle.layout.specs.Bytes.{byteOf}
+use Rattle.layout.specs.Bytes.{byteOf, wordByte}
+
+-- a word written from k on
+abbrev pub store4 : List ℕ → ℕ → ℕ → List ℕ
+store4 bs k n = set (set (set (set bs k (wordByte n 0)) (k + 1) (wordByte n 1)) (k + 2) (wordByte n 2)) (k + 3) (wordByte n 3)
 
 -- a state that has a byte
 abbrev pub Named : State → Type 0

@@ -4,7 +4,8 @@ ghost use Prim.Native.Nat.{_+_, _≤_};
 ghost use lib.ListN.{length};
 ghost use mir.Syntax.{w32};
 ghost use mir.Val.{ofZ, toZ};
-ghost use Rattle.layout.specs.Bytes.{of4, store4, wordAt, wordByte};
+ghost use Rattle.layout.specs.Bytes.{of4, wordAt, wordByte};
+ghost use Rattle.layout.specs.Stands.{store4};
 
 fn word(a: u8, b: u8, c: u8, d: u8) -> u32
     ensures { λ r. ⌜ r ≡ of4 a b c d ⌝ }
