@@ -3,7 +3,7 @@ use Prim.Native.Nat.{_+_, _<_, ℕ}
 use native.Mathlib.Omega.{arith}
 use mathlib.Core.Bool.{false, true, true≢false}
 use mathlib.Core.List.{List}
-use mathlib.Core.Path.{_∙_, _≡_, ap, subst, sym}
+use mathlib.Core.Path.{_∙_, _≡_, ap, refl, subst, sym}
 use lib.IntN.{ℤ}
 use lib.ListN.{length}
 use borrow.Author.Tests.{le-ltb}
@@ -27,7 +27,8 @@ use Rattle.tables.specs.declared.State.the-variants.{Current, Free, Ready, Susp
 use Rattle.tables.specs.declared.Tables.{Tables}
 use Rattle.tables.specs.Counts.{CountsFit}
 use Rattle.kernel.specs.Meets.{Meets}
-use Rattle.layout.proofs.Image.{byte-at, formed-place, formed-state, place-byte, stands-is, stands-made, state-byte, tables-back}
+use Rattle.layout.proofs.Image.{byte-at, formed-place, formed-state, stands-is, stands-made, tables-back}
+use Rattle.layout.proofs.Regions.{place-byte, state-byte}
 use Rattle.lists.proofs.Bools.{below?, split}
 use Rattle.rules.proofs.Kept.{sound-numbered}
 use Rattle.tables.proofs.TestLaws.{checked-sound, sound-checked}
@@ -54,9 +55,9 @@ module _ (t : Tables) (n : ℕ) (a b : ℤ) (slots : length (t .processes) ≡ p
           slots = slots;
           entries = entries;
           places = places;
-          waits = λ p h. state-named (stateOf t p) (subst (λ (k : ℕ). k < 4 + semaphoreLimit) (byte-at t (statesAt + p) (omega arith) ∙ state-byte t p h) (formed-state (toBytes t) wf p h));
+          waits = λ p h. state-named (stateOf t p) (subst (λ (k : ℕ). k < 4 + semaphoreLimit) (byte-at t (statesAt + p) (omega arith) ∙ state-byte t p (statesAt + p) h refl) (formed-state (toBytes t) wf p h));
           fits = fits;
-          row = λ i h. subst (λ (k : ℕ). k < processLimit) (byte-at t (orderAt + i) (omega arith) ∙ place-byte t i h) (formed-place (toBytes t) wf i h);
+          row = λ i h. subst (λ (k : ℕ). k < processLimit) (byte-at t (orderAt + i) (omega arith) ∙ place-byte t i (orderAt + i) h refl) (formed-place (toBytes t) wf i h);
         }
 
     sound : Sound t

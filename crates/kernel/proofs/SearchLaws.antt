@@ -12,7 +12,8 @@ use Rattle.lists.specs.Lists.{filter, firstOr}
 use Rattle.lists.specs.Numbers.{countUp, listed, roundFrom}
 use Rattle.layout.specs.Bytes.{stateByte, usedByte}
 use Rattle.layout.specs.Offsets.{statesAt, usedAt}
-use Rattle.layout.specs.Stands.{Region, Stands, Tells}
+use Rattle.layout.specs.Stands.{Stands, Tells}
+use Rattle.layout.proofs.Readers.{state-stands, used-stands}
 use Rattle.rules.specs.Calls.{freeSemaphores, freeSlots, onePast}
 use Rattle.tables.specs.Limits.{processLimit, semaphoreLimit}
 use Rattle.tables.specs.Readers.{isUsed, stateOf}
@@ -105,17 +106,17 @@ module _ (bs : List ℕ) (at limit : ℕ) (test : ℕ → Bool) (same : (i : ℕ
 
 module _ (bs : List ℕ) (k r : ℕ) (t : Tables) (st : Stands t bs) (S : Sound t) where
   pub first-semaphore : Tells (λ t. t .«next_semaphore») bs k → (k < semaphoreLimit → r ≡ firstFree bs usedAt semaphoreLimit (roundFrom semaphoreLimit k)) → First semaphoreLimit (freeSemaphores t) r
-  unfolding Tells Region
+  unfolding Tells
   first-semaphore cursor e =
       let c : k ≡ t .«next_semaphore» = cursor t st in
       let h : k < semaphoreLimit = rw c (S .laid .cursors .0) in
       subst (λ (z : ℕ). First semaphoreLimit (filter (λ s. not (isUsed t s)) (roundFrom semaphoreLimit z)) r) c
-      (first-free bs usedAt semaphoreLimit (λ s. not (isUsed t s)) (λ i l. ap (λ (z : ℕ). eqb z 0) (st .used i l) ∙ unused-byte (isUsed t i)) k r h (e h))
+      (first-free bs usedAt semaphoreLimit (λ s. not (isUsed t s)) (λ i l. ap (λ (z : ℕ). eqb z 0) (used-stands t bs st i l) ∙ unused-byte (isUsed t i)) k r h (e h))
 
   pub first-slot : Tells (λ t. t .«next_process») bs k → (k < processLimit → r ≡ firstFree bs statesAt processLimit (roundFrom processLimit k)) → First processLimit (freeSlots t) r
-  unfolding Tells Region
+  unfolding Tells
   first-slot cursor e =
       let c : k ≡ t .«next_process» = cursor t st in
       let h : k < processLimit = rw c (S .laid .cursors .1) in
       subst (λ (z : ℕ). First processLimit (filter (λ p. isFree (stateOf t p)) (roundFrom processLimit z)) r) c
-      (first-free bs statesAt processLimit (λ p. isFree (stateOf t p)) (λ i l. ap (λ (z : ℕ). eqb z 0) (st .states i l) ∙ free-byte (stateOf t i)) k r h (e h))
+      (first-free bs statesAt processLimit (λ p. isFree (stateOf t p)) (λ i l. ap (λ (z : ℕ). eqb z 0) (state-stands t bs st i l) ∙ free-byte (stateOf t i)) k r h (e h))

@@ -2,7 +2,7 @@
 use mathlib.Core.List.{List}
 use mathlib.Core.Path.{_∙_, _≡_, subst}
 use Prim.Native.Nat.{ℕ}
-use Rattle.layout.specs.Stands.{Does, Stands, Tells, Turns}
+use Rattle.layout.specs.Stands.{Stands, Tells, Turns}
 use Rattle.tables.specs.declared.Tables.{Tables}
 
 -- one writer, then another
@@ -15,16 +15,6 @@ module _ {A : Type 0} (f : Tables → A) (a : List ℕ) (x : A) (told : Tells f 
   pub with-told : (g : A → Tables → Tables) (b : List ℕ) → Turns (g x) a b → Turns (λ t. g (f t) t) a b
   unfolding Tells Turns
   with-told g b put t st = subst (λ (z : A). Stands (g z t) b) (told t st) (put t st)
-
-  -- a reading and a change make a call
-  pub make-call : (g : Tables → Tables) (b : List ℕ) → Turns g a b → Does g f a b x
-  unfolding Tells Turns Does
-  make-call g b put t st S = (told t st, put t st)
-
--- a reader behind a writer
-pub told-behind : {A : Type 0} (f : Tables → Tables) (g : Tables → A) (a b : List ℕ) (x : A) → Turns f a b → Tells g b x → Tells (λ t. g (f t)) a x
-unfolding Tells Turns
-told-behind f g a b x put told t st = told (f t) (put t st)
 
 -- what was read, by another name
 pub told-as : {A : Type 0} (f : Tables → A) (bs : List ℕ) (x y : A) → y ≡ x → Tells f bs x → Tells f bs y

@@ -1,20 +1,20 @@
 -- The tables fix every byte, and the bytes fix the tables. Assumes nothing.
 use Prim.Native.Nat.{_%_, _*_, _+_, _-_, _/_, _<_, _≤_, ℕ}
-use native.Mathlib.Nat.{add-mul-mod-self-right, div-add-mod', mod-eq-of-lt}
+use native.Mathlib.Nat.{div-add-mod'}
 use native.Mathlib.Omega.{arith}
 use mathlib.Core.Bool.{Bool, _&&_, false, true}
-use mathlib.Core.List.{List}
+use mathlib.Core.List.{List, map}
 use mathlib.Core.Path.{_∙_, _≡_, ap, refl, subst, sym}
 use lib.Dec.{eqb}
-use lib.ListN.{List·getD-eq-default, getD, length}
+use lib.ListN.{List·getD-eq-default, getD, length, length-map}
 use lib.Seq.{ext-getD}
 use mir.Syntax.{w32}
 use mir.Val.{SFits, ofZ, toZ}
 use mir.ValLaws.{ofZ-toZ, toZ-fits}
-use borrow.Author.Tests.{eq-eqb, eqb-true, le-ltb, lt-ltb, ltb-true}
+use borrow.Author.Tests.{eq-eqb, eqb-true, lt-ltb, ltb-true}
 use Rattle.lists.specs.Numbers.{all, listed}
 use Rattle.tables.specs.Limits.{processLimit, semaphoreLimit}
-use Rattle.tables.specs.Readers.{countOf, freeSemaphore, freeSlot, isUsed, priorityOf, process, semaphore, stateOf}
+use Rattle.tables.specs.Readers.{countOf, freeSemaphore, freeSlot, isUsed, process, semaphore, stateOf}
 use Rattle.tables.specs.declared.Process.{Process}
 use Rattle.tables.specs.declared.Semaphore.{Semaphore}
 use Rattle.tables.specs.declared.Tables.{Tables}
@@ -22,49 +22,16 @@ use Rattle.tables.specs.declared.State.{State}
 use Rattle.tables.specs.declared.State.the-variants.{Current, Free, Ready, Suspended, Waiting}
 use Rattle.lists.proofs.Bools.{and-in, below?, both, either}
 use Rattle.lists.proofs.NumberLaws.{all-at, all-true, listed-all, listed-at, listed-length}
-use Rattle.layout.specs.Bytes.{byteOf, byteState, countByte, flagPlain, fromBytes, of4, placeAt, placeNamed, processAt, semaphoreAt, stateByte, stateNamed, toBytes, usedByte, wellFormed, wordAt}
+use Rattle.layout.specs.Bytes.{byteOf, byteState, flagPlain, fromBytes, placeAt, placeNamed, processAt, semaphoreAt, stateByte, stateNamed, toBytes, usedByte, wellFormed, wordAt, wordByte}
 use Rattle.layout.specs.Offsets.{countsAt, nextProcessAt, nextSemaphoreAt, orderAt, prioritiesAt, size, statesAt, usedAt}
-use Rattle.layout.specs.Stands.{Held, Named, Region, Stands, Word, Words}
-use Rattle.layout.proofs.Readers.{byte-waiting, place-read, process-read, semaphore-read}
+use Rattle.layout.specs.Stands.{Held, Named, Stands}
+use Rattle.layout.proofs.Words.{word-said, word-small}
+use Rattle.layout.proofs.Regions.{count-byte, place-byte, priority-byte, state-byte, used-byte}
+use Rattle.layout.proofs.Readers.{byte-waiting, place-read, process-read, semaphore-read, state-stands, used-stands}
 
--- Tables that stand in two lists of bytes make them one
+-- Tables stand in their bytes, and in no others
 
-module _ (a b : List ℕ) (i : ℕ) where
-  in-region : (at n : ℕ) (f : ℕ → ℕ) → at ≤ i → i < at + n → Region at n f a → Region at n f b → getD a i 0 ≡ getD b i 0
-  unfolding Region
-  in-region at n f lo hi x y =
-      let e : at + (i - at) ≡ i = omega arith in
-      subst (λ (z : ℕ). getD a z 0 ≡ getD b z 0) e (x (i - at) (omega arith) ∙ sym (y (i - at) (omega arith)))
-
-  in-words : (at n : ℕ) (f : ℕ → ℕ) → at ≤ i → i < at + n * 4 → Words at n f a → Words at n f b → getD a i 0 ≡ getD b i 0
-  unfolding Words
-  in-words at n f lo hi x y =
-      let k : ℕ = (i - at) / 4 in
-      let d : ℕ = (i - at) % 4 in
-      let e : (i - at) / 4 * 4 + (i - at) % 4 ≡ i - at = div-add-mod' (i - at) 4 in
-      let hd : (i - at) % 4 < 4 = omega arith in
-      let hk : (i - at) / 4 < n = omega arith in
-      let u = x k hk in
-      let v = y k hk in
-      either d 0 (λ q. let z : at + k * 4 ≡ i = omega arith in subst (λ (m : ℕ). getD a m 0 ≡ getD b m 0) z (u .b0 ∙ sym (v .b0)))
-      (λ n0. either d 1 (λ q. let z : at + k * 4 + 1 ≡ i = omega arith in subst (λ (m : ℕ). getD a m 0 ≡ getD b m 0) z (u .b1 ∙ sym (v .b1)))
-      (λ n1. either d 2 (λ q. let z : at + k * 4 + 2 ≡ i = omega arith in subst (λ (m : ℕ). getD a m 0 ≡ getD b m 0) z (u .b2 ∙ sym (v .b2)))
-      (λ n2. let z : at + k * 4 + 3 ≡ i = omega arith in subst (λ (m : ℕ). getD a m 0 ≡ getD b m 0) z (u .b3 ∙ sym (v .b3)))))
-
-pub same-bytes : (t : Tables) (a b : List ℕ) → Stands t a → Stands t b → a ≡ b
-same-bytes t a b x y = ext-getD 0 a b (x .long ∙ sym (y .long)) (λ i h.
-    let l = x .long in
-    below? i prioritiesAt (λ k. in-region a b i statesAt processLimit _ (omega arith) (omega arith) (x .states) (y .states))
-    (λ k₁. below? i usedAt (λ k. in-region a b i prioritiesAt processLimit _ (omega arith) (omega arith) (x .priorities) (y .priorities))
-    (λ k₂. below? i countsAt (λ k. in-region a b i usedAt semaphoreLimit _ (omega arith) (omega arith) (x .used) (y .used))
-    (λ k₃. below? i orderAt (λ k. in-words a b i countsAt semaphoreLimit _ (omega arith) (omega arith) (x .counts) (y .counts))
-    (λ k₄. below? i nextSemaphoreAt (λ k. in-region a b i orderAt processLimit _ (omega arith) (omega arith) (x .order) (y .order))
-    (λ k₅. below? i nextProcessAt (λ k. let e : nextSemaphoreAt ≡ i = omega arith in subst (λ (m : ℕ). getD a m 0 ≡ getD b m 0) e (x .nextSemaphore ∙ sym (y .nextSemaphore)))
-    (λ k₆. let e : nextProcessAt ≡ i = omega arith in subst (λ (m : ℕ). getD a m 0 ≡ getD b m 0) e (x .nextProcess ∙ sym (y .nextProcess)))))))))
-
--- Tables stand in their bytes
-
-pub bytes-long : (t : Tables) → length (toBytes t) ≡ size
+bytes-long : (t : Tables) → length (toBytes t) ≡ size
 unfolding toBytes
 bytes-long t = listed-length (byteOf t) 0 size
 
@@ -73,56 +40,11 @@ module _ (t : Tables) where
   unfolding toBytes
   byte-at i h = listed-at (byteOf t) size i 0 h
 
-  pub state-byte : (p : ℕ) → p < processLimit → byteOf t (statesAt + p) ≡ stateByte (stateOf t p)
-  state-byte p h = let e : statesAt + p - statesAt ≡ p = omega arith in rw (lt-ltb (statesAt + p) prioritiesAt (omega arith), e)
-
-  pub priority-byte : (p : ℕ) → p < processLimit → byteOf t (prioritiesAt + p) ≡ priorityOf t p
-  priority-byte p h =
-      let i : ℕ = prioritiesAt + p in
-      let e : prioritiesAt + p - prioritiesAt ≡ p = omega arith in
-      rw (le-ltb i prioritiesAt (omega arith), lt-ltb i usedAt (omega arith), e)
-
-  pub used-byte : (s : ℕ) → s < semaphoreLimit → byteOf t (usedAt + s) ≡ usedByte (isUsed t s)
-  used-byte s h =
-      let i : ℕ = usedAt + s in
-      let e : usedAt + s - usedAt ≡ s = omega arith in
-      rw (le-ltb i prioritiesAt (omega arith), le-ltb i usedAt (omega arith), lt-ltb i countsAt (omega arith), e)
-
-  pub count-byte : (s d i : ℕ) → s < semaphoreLimit → d < 4 → i ≡ countsAt + s * 4 + d → byteOf t i ≡ countByte (countOf t s) d
-  count-byte s d i h k e =
-      let q : (i - countsAt) / 4 ≡ s = omega arith in
-      let r : (i - countsAt) % 4 ≡ d = omega arith in
-      rw (le-ltb i prioritiesAt (omega arith), le-ltb i usedAt (omega arith), le-ltb i countsAt (omega arith), lt-ltb i orderAt (omega arith), q, r)
-
-  pub place-byte : (j : ℕ) → j < processLimit → byteOf t (orderAt + j) ≡ getD (t .order) j 0
-  place-byte j h =
-      let i : ℕ = orderAt + j in
-      let e : orderAt + j - orderAt ≡ j = omega arith in
-      rw (le-ltb i prioritiesAt (omega arith), le-ltb i usedAt (omega arith), le-ltb i countsAt (omega arith), le-ltb i orderAt (omega arith), lt-ltb i nextSemaphoreAt (omega arith), e)
-
-  word-of : (s : ℕ) → s < semaphoreLimit → Word (countsAt + s * 4) (ofZ w32 (countOf t s)) (toBytes t)
-  word-of s h =
-      record {
-        b0 = byte-at (countsAt + s * 4) (omega arith) ∙ count-byte s 0 (countsAt + s * 4) h (omega arith) (omega arith);
-        b1 = byte-at (countsAt + s * 4 + 1) (omega arith) ∙ count-byte s 1 (countsAt + s * 4 + 1) h (omega arith) refl;
-        b2 = byte-at (countsAt + s * 4 + 2) (omega arith) ∙ count-byte s 2 (countsAt + s * 4 + 2) h (omega arith) refl;
-        b3 = byte-at (countsAt + s * 4 + 3) (omega arith) ∙ count-byte s 3 (countsAt + s * 4 + 3) h (omega arith) refl;
-      }
-
   pub stands-made : Held t → Stands t (toBytes t)
-  unfolding Region Words
-  stands-made h =
-      record {
-        held = h;
-        long = bytes-long t;
-        states = λ p k. byte-at (statesAt + p) (omega arith) ∙ state-byte p k;
-        priorities = λ p k. byte-at (prioritiesAt + p) (omega arith) ∙ priority-byte p k;
-        used = λ s k. byte-at (usedAt + s) (omega arith) ∙ used-byte s k;
-        counts = word-of;
-        order = λ i k. byte-at (orderAt + i) (omega arith) ∙ place-byte i k;
-        nextSemaphore = byte-at nextSemaphoreAt (omega arith);
-        nextProcess = byte-at nextProcessAt (omega arith);
-      }
+  stands-made h = record { held = h; long = bytes-long t; bytes = byte-at }
+
+  pub same-bytes : (a b : List ℕ) → Stands t a → Stands t b → a ≡ b
+  same-bytes a b x y = let l = x .long in ext-getD 0 a b (l ∙ sym (y .long)) (λ i h. x .bytes i (omega arith) ∙ sym (y .bytes i (omega arith)))
 
 -- The tables that bytes are, entry by entry
 
@@ -159,7 +81,7 @@ stands-is t bs st =
     let ps : listed 0 processLimit (processAt bs) ≡ t .processes = listed-all freeSlot (processAt bs) processLimit (t .processes) (st .held .slots) (process-read t bs st) in
     let ss : listed 0 semaphoreLimit (semaphoreAt bs) ≡ t .semaphores = listed-all freeSemaphore (semaphoreAt bs) semaphoreLimit (t .semaphores) (st .held .entries) (semaphore-read t bs st) in
     let os : listed 0 processLimit (placeAt bs) ≡ t .order = listed-all 0 (placeAt bs) processLimit (t .order) (st .held .places) (place-read t bs st) in
-    rw (ps, ss, os, st .nextSemaphore, st .nextProcess)
+    rw (ps, ss, os, st .bytes nextSemaphoreAt (omega arith), st .bytes nextProcessAt (omega arith))
 
 -- A round trip from tables
 
@@ -180,7 +102,7 @@ module _ (bs : List ℕ) (wf : wellFormed bs ≡ true) where
   pub formed-state : (p : ℕ) → p < processLimit → getD bs (statesAt + p) 0 < 4 + semaphoreLimit
   formed-state p h = ltb-true _ (4 + semaphoreLimit) (all-at (stateNamed bs) processLimit p (both (all processLimit (stateNamed bs)) _ rest .0) h)
 
-  pub formed-flag : (s : ℕ) → s < semaphoreLimit → getD bs (usedAt + s) 0 < 2
+  formed-flag : (s : ℕ) → s < semaphoreLimit → getD bs (usedAt + s) 0 < 2
   formed-flag s h = ltb-true _ 2 (all-at (flagPlain bs) semaphoreLimit s (both (all semaphoreLimit (flagPlain bs)) _ (both (all processLimit (stateNamed bs)) _ rest .1) .0) h)
 
   pub formed-place : (i : ℕ) → i < processLimit → getD bs (orderAt + i) 0 < processLimit
@@ -188,13 +110,13 @@ module _ (bs : List ℕ) (wf : wellFormed bs ≡ true) where
 
 -- the bytes of tables that they can hold are well formed
 pub formed-made : (t : Tables) → Held t → wellFormed (toBytes t) ≡ true
-unfolding wellFormed Region
+unfolding wellFormed
 formed-made t h =
     let st = stands-made t h in
     and-in (eq-eqb (length (toBytes t)) size (bytes-long t))
-    (and-in (all-true processLimit (stateNamed (toBytes t)) (λ p k. lt-ltb (getD (toBytes t) (statesAt + p) 0) (4 + semaphoreLimit) (rw (st .states p k) (state-small (stateOf t p) (h .waits p k)))))
-    (and-in (all-true semaphoreLimit (flagPlain (toBytes t)) (λ s k. lt-ltb (getD (toBytes t) (usedAt + s) 0) 2 (rw (st .used s k) (used-small (isUsed t s)))))
-    (all-true processLimit (placeNamed (toBytes t)) (λ i k. lt-ltb (getD (toBytes t) (orderAt + i) 0) processLimit (rw (st .order i k) (h .row i k))))))
+    (and-in (all-true processLimit (stateNamed (toBytes t)) (λ p k. lt-ltb (getD (toBytes t) (statesAt + p) 0) (4 + semaphoreLimit) (rw (state-stands t (toBytes t) st p k) (state-small (stateOf t p) (h .waits p k)))))
+    (and-in (all-true semaphoreLimit (flagPlain (toBytes t)) (λ s k. lt-ltb (getD (toBytes t) (usedAt + s) 0) 2 (rw (used-stands t (toBytes t) st s k) (used-small (isUsed t s)))))
+    (all-true processLimit (placeNamed (toBytes t)) (λ i k. lt-ltb (getD (toBytes t) (orderAt + i) 0) processLimit (rw (place-read t (toBytes t) st i k) (h .row i k))))))
   where
     state-small : (s : State) → Named s → stateByte s < 4 + semaphoreLimit
     state-small Free n = omega arith
@@ -220,25 +142,9 @@ state-back b h =
 used-back : (u : ℕ) → u < 2 → usedByte (eqb u 1) ≡ u
 used-back u h = either u 0 (λ e. rw e refl) (λ n. let e : u ≡ 1 = omega arith in rw e refl)
 
-low : (a m : ℕ) → a < 256 → (a + m * 256) % 256 ≡ a
-low a m h = add-mul-mod-self-right a m 256 ∙ mod-eq-of-lt h
-
-module _ (a b c d : ℕ) (ha : a < 256) (hb : b < 256) (hc : c < 256) (hd : d < 256) where
-  word-fits : of4 a b c d < 4294967296
-  word-fits = omega arith
-
-  -- the bytes of their number
-  pub bytes-there : (n : ℕ) → n ≡ of4 a b c d → (a ≡ n % 256) × (b ≡ n / 256 % 256) × (c ≡ n / 65536 % 256) × (d ≡ n / 16777216 % 256)
-  bytes-there n e =
-      let f : n ≡ a + (b + (c + d * 256) * 256) * 256 = omega arith in
-      let q₁ : n / 256 ≡ b + (c + d * 256) * 256 = omega arith in
-      let q₂ : n / 65536 ≡ c + d * 256 = omega arith in
-      let q₃ : n / 16777216 ≡ d = omega arith in (
-        sym (ap (λ (k : ℕ). k % 256) f ∙ low a (b + (c + d * 256) * 256) ha),
-        sym (ap (λ (k : ℕ). k % 256) q₁ ∙ low b (c + d * 256) hb),
-        sym (ap (λ (k : ℕ). k % 256) q₂ ∙ low c d hc),
-        sym (ap (λ (k : ℕ). k % 256) q₃ ∙ mod-eq-of-lt hd),
-      )
+-- an array that is a field of a struct has the length of its type
+pub unmapped : (X Y : Type 0) (f : X → Y) (l : List X) (n : ℕ) → length (map f l) ≡ n → length l ≡ n
+unmapped X Y f l n e = sym (length-map l f) ∙ e
 
 -- a count past the table reads as 0
 pub past-fits : (t : Tables) → length (t .semaphores) ≡ semaphoreLimit → (s : ℕ) → semaphoreLimit ≤ s → SFits w32 (countOf t s)
@@ -246,42 +152,61 @@ past-fits t l s h = subst (λ (x : Semaphore). SFits w32 (x .count)) (sym (List�
 
 -- Well formed bytes are the tables that they say
 
-module _ (bs : List ℕ) (byte : (i : ℕ) → getD bs i 0 < 256) where
-  word-is : (s : ℕ) → Word (countsAt + s * 4) (wordAt bs s) bs
-  word-is s =
-      let k : ℕ = countsAt + s * 4 in
-      let w = bytes-there (getD bs k 0) (getD bs (k + 1) 0) (getD bs (k + 2) 0) (getD bs (k + 3) 0) (byte k) (byte (k + 1)) (byte (k + 2)) (byte (k + 3)) (wordAt bs s) refl in
-      record { b0 = w .0; b1 = w .1; b2 = w .2; b3 = w .3 }
+module _ (bs : List ℕ) (byte : (i : ℕ) → getD bs i 0 < 256) (wf : wellFormed bs ≡ true) where
+  abbrev said : Tables
+  said = fromBytes bs
 
-  pub word-small : (s : ℕ) → wordAt bs s < 4294967296
-  word-small s =
-      let k : ℕ = countsAt + s * 4 in
-      word-fits (getD bs k 0) (getD bs (k + 1) 0) (getD bs (k + 2) 0) (getD bs (k + 3) 0) (byte k) (byte (k + 1)) (byte (k + 2)) (byte (k + 3))
+  state : (p : ℕ) → p < processLimit → stateOf said p ≡ byteState (getD bs (statesAt + p) 0)
+  state p h = ap (λ (x : Process). x .state) (process-said bs p h)
 
-  pub stands-read : wellFormed bs ≡ true → Stands (fromBytes bs) bs
-  unfolding Region Words fromBytes
-  stands-read wf =
-      let state : (p : ℕ) → p < processLimit → stateOf (fromBytes bs) p ≡ byteState (getD bs (statesAt + p) 0) = λ p h. ap (λ (x : Process). x .state) (process-said bs p h) in
-      let count : (s : ℕ) → s < semaphoreLimit → countOf (fromBytes bs) s ≡ toZ w32 (wordAt bs s) = λ s h. ap (λ (x : Semaphore). x .count) (semaphore-said bs s h) in
+  count : (s : ℕ) → s < semaphoreLimit → countOf said s ≡ toZ w32 (wordAt bs (countsAt + s * 4))
+  count s h = ap (λ (x : Semaphore). x .count) (semaphore-said bs s h)
+
+  word-kept : (s : ℕ) → s < semaphoreLimit → wordAt bs (countsAt + s * 4) ≡ ofZ w32 (countOf said s)
+  word-kept s h = let k : ℕ = countsAt + s * 4 in sym (ap (ofZ w32) (count s h) ∙ ofZ-toZ w32 (wordAt bs k) (record { fits = word-small bs k byte }))
+
+  held-said : Held said
+  held-said =
       record {
-        held = record {
-          slots = processes-long bs;
-          entries = semaphores-long bs;
-          places = order-long bs;
-          waits = λ p h. rw (state p h) (state-back (getD bs (statesAt + p) 0) (formed-state bs wf p h) .1);
-          fits = λ s. below? s semaphoreLimit (λ h. rw (count s h) (toZ-fits w32 (wordAt bs s) (record { fits = word-small s }))) (past-fits (fromBytes bs) (semaphores-long bs) s);
-          row = λ i h. rw (place-said bs i h) (formed-place bs wf i h);
-        };
-        long = formed-long bs wf;
-        states = λ p h. sym (ap stateByte (state p h) ∙ state-back (getD bs (statesAt + p) 0) (formed-state bs wf p h) .0);
-        priorities = λ p h. sym (ap (λ (x : Process). x .priority) (process-said bs p h));
-        used = λ s h. sym (ap (λ (x : Semaphore). usedByte (x .used)) (semaphore-said bs s h) ∙ used-back (getD bs (usedAt + s) 0) (formed-flag bs wf s h));
-        counts = λ s h. subst (λ (n : ℕ). Word (countsAt + s * 4) n bs) (sym (ap (ofZ w32) (count s h) ∙ ofZ-toZ w32 (wordAt bs s) (record { fits = word-small s }))) (word-is s);
-        order = λ i h. sym (place-said bs i h);
-        nextSemaphore = refl;
-        nextProcess = refl;
+        slots = processes-long bs;
+        entries = semaphores-long bs;
+        places = order-long bs;
+        waits = λ p h. rw (state p h) (state-back (getD bs (statesAt + p) 0) (formed-state bs wf p h) .1);
+        fits = λ s. below? s semaphoreLimit (λ h. rw (count s h) (toZ-fits w32 _ (record { fits = word-small bs (countsAt + s * 4) byte }))) (past-fits said (semaphores-long bs) s);
+        row = λ i h. rw (place-said bs i h) (formed-place bs wf i h);
       }
 
+  -- Each part
+
+  state-kept : (p i : ℕ) → p < processLimit → i ≡ statesAt + p → getD bs i 0 ≡ byteOf said i
+  state-kept p i h e = sym (state-byte said p i h e ∙ ap stateByte (state p h) ∙ rw e (state-back (getD bs (statesAt + p) 0) (formed-state bs wf p h) .0))
+
+  priority-kept : (p i : ℕ) → p < processLimit → i ≡ prioritiesAt + p → getD bs i 0 ≡ byteOf said i
+  priority-kept p i h e = sym (priority-byte said p i h e ∙ ap (λ (x : Process). x .priority) (process-said bs p h) ∙ rw e refl)
+
+  used-kept : (s i : ℕ) → s < semaphoreLimit → i ≡ usedAt + s → getD bs i 0 ≡ byteOf said i
+  used-kept s i h e = sym (used-byte said s i h e ∙ ap (λ (x : Semaphore). usedByte (x .used)) (semaphore-said bs s h) ∙ rw e (used-back (getD bs (usedAt + s) 0) (formed-flag bs wf s h)))
+
+  count-kept : (s d i : ℕ) → s < semaphoreLimit → d < 4 → i ≡ countsAt + s * 4 + d → getD bs i 0 ≡ byteOf said i
+  count-kept s d i h hd e = sym (count-byte said s d i h hd e ∙ rw e (sym (word-said bs (countsAt + s * 4) byte d hd ∙ ap (λ (n : ℕ). wordByte n d) (word-kept s h))))
+
+  place-kept : (j i : ℕ) → j < processLimit → i ≡ orderAt + j → getD bs i 0 ≡ byteOf said i
+  place-kept j i h e = sym (place-byte said j i h e ∙ place-said bs j h ∙ rw e refl)
+
+  byte-kept : (i : ℕ) → i < size → getD bs i 0 ≡ byteOf said i
+  unfolding fromBytes
+  byte-kept i h =
+      below? i prioritiesAt (λ k. state-kept (i - statesAt) i (omega arith) (omega arith))
+      (λ k₁. below? i usedAt (λ k. priority-kept (i - prioritiesAt) i (omega arith) (omega arith))
+      (λ k₂. below? i countsAt (λ k. used-kept (i - usedAt) i (omega arith) (omega arith))
+      (λ k₃. below? i orderAt (λ k. let e = div-add-mod' (i - countsAt) 4 in count-kept ((i - countsAt) / 4) ((i - countsAt) % 4) i (omega arith) (omega arith) (omega arith))
+      (λ k₄. below? i nextSemaphoreAt (λ k. place-kept (i - orderAt) i (omega arith) (omega arith))
+      (λ k₅. below? i nextProcessAt (λ k. let e : i ≡ nextSemaphoreAt = omega arith in rw e refl)
+      (λ k₆. let e : i ≡ nextProcessAt = omega arith in rw e refl))))))
+
+  pub stands-read : Stands said bs
+  stands-read = record { held = held-said; long = formed-long bs wf; bytes = byte-kept }
+
   -- a round trip from bytes
-  pub bytes-back : wellFormed bs ≡ true → toBytes (fromBytes bs) ≡ bs
-  bytes-back wf = let st = stands-read wf in same-bytes (fromBytes bs) (toBytes (fromBytes bs)) bs (stands-made (fromBytes bs) (st .held)) st
+  pub bytes-back : toBytes said ≡ bs
+  bytes-back = same-bytes said (toBytes said) bs (stands-made said held-said) stands-read

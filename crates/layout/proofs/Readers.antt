@@ -1,7 +1,7 @@
 -- What each field of the lent bytes tells. Assumes nothing.
-use Prim.Native.Nat.{_%_, _*_, _+_, _-_, _/_, _<_, _≤_, ℕ}
+use Prim.Native.Nat.{_*_, _+_, _-_, _<_, _≤_, ℕ}
 use native.Mathlib.Omega.{arith}
-use native.Mathlib.Nat.{div-add-mod', mod-eq-of-lt, zero-add}
+use native.Mathlib.Nat.{zero-add}
 use mathlib.Core.Path.{_∙_, _≡_, ap, refl, sym}
 use mathlib.Core.Bool.{Bool, false, true}
 use mathlib.Core.List.{List}
@@ -18,82 +18,76 @@ use Rattle.tables.specs.declared.Tables.{Tables}
 use Rattle.tables.specs.Limits.{processLimit, semaphoreLimit}
 use Rattle.tables.specs.Readers.{countOf, isUsed, priorityOf, process, semaphore, stateOf}
 use Rattle.layout.specs.Offsets.{countsAt, nextProcessAt, nextSemaphoreAt, orderAt, prioritiesAt, statesAt, usedAt}
-use Rattle.layout.specs.Bytes.{byteState, of4, processAt, semaphoreAt, stateByte, usedByte, wordAt}
-use Rattle.layout.specs.Stands.{Named, Region, Stands, Tells, Word, Words}
+use Rattle.layout.specs.Bytes.{byteState, processAt, semaphoreAt, stateByte, usedByte, wordAt}
+use Rattle.layout.specs.Stands.{Named, Stands, Tells}
+use Rattle.layout.proofs.Words.{word-read}
+use Rattle.layout.proofs.Regions.{count-byte, place-byte, priority-byte, state-byte, used-byte}
 
 -- One entry as bytes, and back
 
 pub byte-waiting : (b : ℕ) → 4 ≤ b → byteState b ≡ Waiting (b - 4)
 byte-waiting b h = rw (ne-eqb b 0 (omega arith), ne-eqb b 1 (omega arith), ne-eqb b 2 (omega arith), ne-eqb b 3 (omega arith))
 
-pub state-there : (s : State) → Named s → byteState (stateByte s) ≡ s
+state-there : (s : State) → Named s → byteState (stateByte s) ≡ s
 state-there Free h = refl
 state-there Current h = refl
 state-there Ready h = refl
 state-there Suspended h = refl
 state-there (Waiting q) h = rw (lt-ltb q semaphoreLimit h) (byte-waiting (4 + q) (omega arith) ∙ ap Waiting (omega arith))
 
-pub used-there : (u : Bool) → eqb (usedByte u) 1 ≡ u
+used-there : (u : Bool) → eqb (usedByte u) 1 ≡ u
 used-there true = refl
 used-there false = refl
-
-pub word-there : (n : ℕ) → n < 4294967296 → of4 (n % 256) (n / 256 % 256) (n / 65536 % 256) (n / 16777216 % 256) ≡ n
-word-there n h =
-    let q₁ : ℕ = n / 256 in
-    let q₂ : ℕ = n / 65536 in
-    let q₃ : ℕ = n / 16777216 in
-    let d₂ : q₁ / 256 ≡ q₂ = omega arith in
-    let d₃ : q₂ / 256 ≡ q₃ = omega arith in
-    let m₃ : q₃ % 256 ≡ q₃ = mod-eq-of-lt (omega arith) in
-    omega (arith, div-add-mod' n 256, div-add-mod' q₁ 256, div-add-mod' q₂ 256)
 
 -- Of bytes that are tables
 
 module _ (t : Tables) (bs : List ℕ) (st : Stands t bs) where
-  pub state-read : (p : ℕ) → p < processLimit → getD bs p 0 ≡ stateByte (stateOf t p)
-  unfolding Region
-  state-read p h = ap (λ (z : ℕ). getD bs z 0) (sym (zero-add p)) ∙ st .states p h
+  pub state-stands : (p : ℕ) → p < processLimit → getD bs (statesAt + p) 0 ≡ stateByte (stateOf t p)
+  state-stands p h = st .bytes (statesAt + p) (omega arith) ∙ state-byte t p (statesAt + p) h refl
 
-  pub priority-read : (p : ℕ) → p < processLimit → getD bs (prioritiesAt + p) 0 ≡ priorityOf t p
-  unfolding Region
-  priority-read p h = st .priorities p h
+  -- the same for code that names no offset: the states stand first
+  pub state-read : (p : ℕ) → p < processLimit → getD bs p 0 ≡ stateByte (stateOf t p)
+  state-read p h = ap (λ (z : ℕ). getD bs z 0) (sym (zero-add p)) ∙ state-stands p h
+
+  priority-read : (p : ℕ) → p < processLimit → getD bs (prioritiesAt + p) 0 ≡ priorityOf t p
+  priority-read p h = st .bytes (prioritiesAt + p) (omega arith) ∙ priority-byte t p (prioritiesAt + p) h refl
 
   pub process-read : (p : ℕ) → p < processLimit → processAt bs p ≡ process t p
   process-read p h =
-      let e : byteState (getD bs (statesAt + p) 0) ≡ stateOf t p = ap (λ (i : ℕ). byteState (getD bs i 0)) (zero-add p) ∙ ap byteState (state-read p h) ∙ state-there (stateOf t p) (st .held .waits p h) in
+      let e : byteState (getD bs (statesAt + p) 0) ≡ stateOf t p = ap byteState (state-stands p h) ∙ state-there (stateOf t p) (st .held .waits p h) in
       rw (e, priority-read p h)
 
-  pub used-read : (s : ℕ) → s < semaphoreLimit → eqb (getD bs (usedAt + s) 0) 1 ≡ isUsed t s
-  unfolding Region
-  used-read s h = ap (λ (z : ℕ). eqb z 1) (st .used s h) ∙ used-there (isUsed t s)
+  pub used-stands : (s : ℕ) → s < semaphoreLimit → getD bs (usedAt + s) 0 ≡ usedByte (isUsed t s)
+  used-stands s h = st .bytes (usedAt + s) (omega arith) ∙ used-byte t s (usedAt + s) h refl
 
-  pub count-read : (s : ℕ) → s < semaphoreLimit → toZ w32 (wordAt bs s) ≡ countOf t s
-  unfolding Words
+  used-read : (s : ℕ) → s < semaphoreLimit → eqb (getD bs (usedAt + s) 0) 1 ≡ isUsed t s
+  used-read s h = ap (λ (z : ℕ). eqb z 1) (used-stands s h) ∙ used-there (isUsed t s)
+
+  count-read : (s : ℕ) → s < semaphoreLimit → toZ w32 (wordAt bs (countsAt + s * 4)) ≡ countOf t s
   count-read s h =
-      let w : Word (countsAt + s * 4) (ofZ w32 (countOf t s)) bs = st .counts s h in
-      let f : SFits w32 (countOf t s) = st .held .fits s in
-      let is : wordAt bs s ≡ ofZ w32 (countOf t s) = rw (w .b0, w .b1, w .b2, w .b3) (word-there (ofZ w32 (countOf t s)) (ofZ-fits w32 (countOf t s) f .fits)) in
-      ap (toZ w32) is ∙ toZ-ofZ w32 (countOf t s) f
+      let k : ℕ = countsAt + s * 4 in
+      let c : ℤ = countOf t s in
+      let f : SFits w32 c = st .held .fits s in
+      ap (toZ w32) (word-read bs k (ofZ w32 c) (ofZ-fits w32 c f .fits) (λ d hd. st .bytes (k + d) (omega arith) ∙ count-byte t s d (k + d) h hd refl)) ∙ toZ-ofZ w32 c f
 
   pub semaphore-read : (s : ℕ) → s < semaphoreLimit → semaphoreAt bs s ≡ semaphore t s
   semaphore-read s h = rw (used-read s h, count-read s h)
 
   pub place-read : (i : ℕ) → i < processLimit → getD bs (orderAt + i) 0 ≡ getD (t .order) i 0
-  unfolding Region
-  place-read i h = st .order i h
+  place-read i h = st .bytes (orderAt + i) (omega arith) ∙ place-byte t i (orderAt + i) h refl
 
 -- As readers
 
 module _ (bs : List ℕ) where
-  pub process-tells : (p : ℕ) → p < processLimit → Tells (λ t. process t p) bs (record { state = byteState (getD bs p 0); priority = getD bs (prioritiesAt + p) 0 })
+  pub process-tells : (p : ℕ) → p < processLimit → Tells (λ t. process t p) bs (processAt bs p)
   unfolding Tells
-  process-tells p h t st = ap (λ (i : ℕ). record { state = byteState (getD bs i 0); priority = getD bs (prioritiesAt + p) 0 }) (sym (zero-add p)) ∙ process-read t bs st p h
+  process-tells p h t st = process-read t bs st p h
 
   pub used-tells : (s : ℕ) → s < semaphoreLimit → Tells (λ t. isUsed t s) bs (eqb (getD bs (usedAt + s) 0) 1)
   unfolding Tells
   used-tells s h t st = used-read t bs st s h
 
-  pub count-tells : (s : ℕ) (r : ℤ) → s < semaphoreLimit → r ≡ toZ w32 (wordAt bs s) → Tells (λ t. countOf t s) bs r
+  pub count-tells : (s : ℕ) (r : ℤ) → s < semaphoreLimit → r ≡ toZ w32 (wordAt bs (countsAt + s * 4)) → Tells (λ t. countOf t s) bs r
   unfolding Tells
   count-tells s r h e t st = e ∙ count-read t bs st s h
 
@@ -103,11 +97,11 @@ module _ (bs : List ℕ) where
 
   pub next-semaphore-tells : Tells (λ t. t .«next_semaphore») bs (getD bs nextSemaphoreAt 0)
   unfolding Tells
-  next-semaphore-tells t st = st .nextSemaphore
+  next-semaphore-tells t st = st .bytes nextSemaphoreAt (omega arith)
 
   pub next-process-tells : Tells (λ t. t .«next_process») bs (getD bs nextProcessAt 0)
   unfolding Tells
-  next-process-tells t st = st .nextProcess
+  next-process-tells t st = st .bytes nextProcessAt (omega arith)
 
 -- a flag stored as the machine stores a bool
 pub bool-byte : (b : Bool) → boolByte b ≡ usedByte b

@@ -1,92 +1,80 @@
--- Parts of the lent bytes: what one store does to each. Assumes nothing.
-use Prim.Native.Nat.{_%_, _*_, _+_, _/_, _<_, _≤_, ℕ}
+-- What stands at each byte, part by part, and what a store does to it. Assumes nothing.
+use Prim.Native.Nat.{_%_, _*_, _+_, _-_, _/_, _<_, _≤_, ℕ}
 use native.Mathlib.Omega.{arith}
 use mathlib.Core.Path.{_∙_, _≡_, ap, subst, sym}
 use mathlib.Core.List.{List}
 use lib.ListN.{getD, length, length-set, set}
 use lib.Seq.{getD-set-other, getD-set-same}
-use Rattle.lists.proofs.Bools.{either}
-use Rattle.layout.specs.Stands.{Region, Word, Words}
+use mir.Syntax.{w32}
+use mir.Val.{ofZ}
+use borrow.Author.Tests.{le-ltb, lt-ltb}
+use Rattle.tables.specs.declared.Tables.{Tables}
+use Rattle.tables.specs.Limits.{processLimit, semaphoreLimit}
+use Rattle.tables.specs.Readers.{countOf, isUsed, priorityOf, stateOf}
+use Rattle.lists.proofs.Bools.{below?, either}
+use Rattle.layout.specs.Offsets.{countsAt, nextSemaphoreAt, orderAt, prioritiesAt, size, statesAt, usedAt}
+use Rattle.layout.specs.Bytes.{byteOf, stateByte, usedByte, wordByte}
+use Rattle.layout.specs.Stands.{Held, Stands, store4}
+use Rattle.layout.proofs.Words.{word-beside, word-here, word-long}
 
--- a store outside a part leaves it as it is
+-- Each part: the tests of `byteOf` up to its own
 
-module _ (bs : List ℕ) (j v : ℕ) where
-  pub aside : (at n : ℕ) (f : ℕ → ℕ) → ((i : ℕ) → i < n → at + i ≡ j → ⊥) → Region at n f bs → Region at n f (set bs j v)
-  unfolding Region
-  aside at n f away r i h = getD-set-other bs j (at + i) v 0 (away i h) ∙ r i h
+module _ (t : Tables) where
+  pub state-byte : (p i : ℕ) → p < processLimit → i ≡ statesAt + p → byteOf t i ≡ stateByte (stateOf t p)
+  state-byte p i h e =
+      let q : i - statesAt ≡ p = omega arith in
+      rw (lt-ltb i prioritiesAt (omega arith), q)
 
-  pub aside-one : (k x : ℕ) → (k ≡ j → ⊥) → getD bs k 0 ≡ x → getD (set bs j v) k 0 ≡ x
-  aside-one k x away e = getD-set-other bs j k v 0 away ∙ e
+  pub priority-byte : (p i : ℕ) → p < processLimit → i ≡ prioritiesAt + p → byteOf t i ≡ priorityOf t p
+  priority-byte p i h e =
+      let q : i - prioritiesAt ≡ p = omega arith in
+      rw (le-ltb i prioritiesAt (omega arith), lt-ltb i usedAt (omega arith), q)
 
-  aside-word : (k n : ℕ) → ((i : ℕ) → i < 4 → k + i ≡ j → ⊥) → Word k n bs → Word k n (set bs j v)
-  aside-word k n away w =
+  pub used-byte : (s i : ℕ) → s < semaphoreLimit → i ≡ usedAt + s → byteOf t i ≡ usedByte (isUsed t s)
+  used-byte s i h e =
+      let q : i - usedAt ≡ s = omega arith in
+      rw (le-ltb i prioritiesAt (omega arith), le-ltb i usedAt (omega arith), lt-ltb i countsAt (omega arith), q)
+
+  pub count-byte : (s d i : ℕ) → s < semaphoreLimit → d < 4 → i ≡ countsAt + s * 4 + d → byteOf t i ≡ wordByte (ofZ w32 (countOf t s)) d
+  count-byte s d i h k e =
+      let q : (i - countsAt) / 4 ≡ s = omega arith in
+      let r : (i - countsAt) % 4 ≡ d = omega arith in
+      rw (le-ltb i prioritiesAt (omega arith), le-ltb i usedAt (omega arith), le-ltb i countsAt (omega arith), lt-ltb i orderAt (omega arith), q, r)
+
+  pub place-byte : (j i : ℕ) → j < processLimit → i ≡ orderAt + j → byteOf t i ≡ getD (t .order) j 0
+  place-byte j i h e =
+      let q : i - orderAt ≡ j = omega arith in
+      rw (le-ltb i prioritiesAt (omega arith), le-ltb i usedAt (omega arith), le-ltb i countsAt (omega arith), le-ltb i orderAt (omega arith), lt-ltb i nextSemaphoreAt (omega arith), q)
+
+-- Bytes that are t become bytes that are t′, where the two differ in nothing but what is stored: these two laws carry every writer
+
+-- one of the n bytes from k on, or elsewhere
+within? : {P : Type 0} (i k n : ℕ) → ((d : ℕ) → d < n → i ≡ k + d → P) → (((d : ℕ) → d < n → i ≡ k + d → ⊥) → P) → P
+within? i k n f g =
+    below? i k (λ a. g (λ d h e. omega arith))
+    (λ a. below? i (k + n) (λ b. f (i - k) (omega arith) (omega arith)) (λ b. g (λ d h e. omega arith)))
+
+module _ (t t′ : Tables) (bs : List ℕ) (st : Stands t bs) (held : Held t′) where
+  pub put-byte : (j v : ℕ) → j < size → byteOf t′ j ≡ v → ((i : ℕ) → (i ≡ j → ⊥) → byteOf t i ≡ byteOf t′ i) → Stands t′ (set bs j v)
+  put-byte j v h e same =
+      let l = st .long in
       record {
-        b0 = aside-one k _ (λ e. away 0 (omega arith) (omega arith)) (w .b0);
-        b1 = aside-one (k + 1) _ (away 1 (omega arith)) (w .b1);
-        b2 = aside-one (k + 2) _ (away 2 (omega arith)) (w .b2);
-        b3 = aside-one (k + 3) _ (away 3 (omega arith)) (w .b3);
+        held = held;
+        long = length-set bs j v ∙ l;
+        bytes = λ i hi. either i j
+            (λ q. rw q (getD-set-same bs j v 0 (omega arith) ∙ sym e))
+            (λ q. getD-set-other bs j i v 0 q ∙ st .bytes i hi ∙ same i q);
       }
 
-  pub aside-words : (at n : ℕ) (f : ℕ → ℕ) → ((i k : ℕ) → i < n → k < 4 → at + i * 4 + k ≡ j → ⊥) → Words at n f bs → Words at n f (set bs j v)
-  unfolding Words
-  aside-words at n f away r i h = aside-word (at + i * 4) (f i) (λ k. away i k h) (r i h)
-
--- a store in a part changes one value: this one law serves every field of single bytes
-pub inside : (bs : List ℕ) (at n : ℕ) (f g : ℕ → ℕ) (i j v : ℕ) → at + n ≤ length bs → i < n → j ≡ at + i → v ≡ g i → ((k : ℕ) → (k ≡ i → ⊥) → f k ≡ g k) → Region at n f bs → Region at n g (set bs j v)
-unfolding Region
-inside bs at n f g i j v long h is e same r k hk =
-    either k i
-    (λ q. ap (λ (z : ℕ). getD (set bs j v) z 0) (omega arith) ∙ getD-set-same bs j v 0 (omega arith) ∙ e ∙ ap g (sym q))
-    (λ q. getD-set-other bs j (at + k) v 0 (λ z. q (omega arith)) ∙ r k hk ∙ same k q)
-
--- the same part under another name
-pub like : (at n : ℕ) (f g : ℕ → ℕ) (bs : List ℕ) → ((k : ℕ) → f k ≡ g k) → Region at n f bs → Region at n g bs
-unfolding Region
-like at n f g bs e r i h = r i h ∙ e i
-
--- Four bytes written
-
-abbrev pub store4 : List ℕ → ℕ → ℕ → List ℕ
-store4 bs k n = set (set (set (set bs k (n % 256)) (k + 1) (n / 256 % 256)) (k + 2) (n / 65536 % 256)) (k + 3) (n / 16777216 % 256)
-
-module _ (bs : List ℕ) (k n : ℕ) where
-  abbrev one : List ℕ
-  one = set bs k (n % 256)
-
-  abbrev two : List ℕ
-  two = set one (k + 1) (n / 256 % 256)
-
-  abbrev three : List ℕ
-  three = set two (k + 2) (n / 65536 % 256)
-
-  pub long4 : length (store4 bs k n) ≡ length bs
-  long4 = length-set three (k + 3) _ ∙ length-set two (k + 2) _ ∙ length-set one (k + 1) _ ∙ length-set bs k _
-
-  -- what no store changes, all four leave
-  through : (P : List ℕ → Type 0) → ((l : List ℕ) (d v : ℕ) → d < 4 → P l → P (set l (k + d) v)) → P bs → P (store4 bs k n)
-  through P keep p =
-      let z : k + 0 ≡ k = omega arith in
-      keep three 3 _ (omega arith) (keep two 2 _ (omega arith) (keep one 1 _ (omega arith) (subst (λ (j : ℕ). P (set bs j (n % 256))) z (keep bs 0 _ (omega arith) p))))
-
-  pub aside4 : (at m : ℕ) (f : ℕ → ℕ) → ((i d : ℕ) → i < m → d < 4 → at + i ≡ k + d → ⊥) → Region at m f bs → Region at m f (store4 bs k n)
-  aside4 at m f away = through (Region at m f) (λ l d v h. aside l (k + d) v at m f (λ i hi. away i d hi h))
-
-  pub aside4-one : (j x : ℕ) → ((d : ℕ) → d < 4 → j ≡ k + d → ⊥) → getD bs j 0 ≡ x → getD (store4 bs k n) j 0 ≡ x
-  aside4-one j x away = through (λ (l : List ℕ). getD l j 0 ≡ x) (λ l d v h. aside-one l (k + d) v j x (away d h))
-
-  pub aside4-word : (j m : ℕ) → ((i d : ℕ) → i < 4 → d < 4 → j + i ≡ k + d → ⊥) → Word j m bs → Word j m (store4 bs k n)
-  aside4-word j m away = through (Word j m) (λ l d v h. aside-word l (k + d) v j m (λ i hi. away i d hi h))
-
-  pub word-here : k + 4 ≤ length bs → Word k n (store4 bs k n)
-  word-here h =
-      let l1 = length-set bs k (n % 256) in
-      let l2 = length-set one (k + 1) (n / 256 % 256) in
-      let l3 = length-set two (k + 2) (n / 65536 % 256) in
+  pub put-word : (k n : ℕ) → k + 4 ≤ size → ((d : ℕ) → d < 4 → byteOf t′ (k + d) ≡ wordByte n d) → ((i : ℕ) → ((d : ℕ) → d < 4 → i ≡ k + d → ⊥) → byteOf t i ≡ byteOf t′ i) → Stands t′ (store4 bs k n)
+  put-word k n h e same =
+      let l = st .long in
       record {
-        b0 = getD-set-other three (k + 3) k _ 0 (λ e. omega arith) ∙ getD-set-other two (k + 2) k _ 0 (λ e. omega arith) ∙ getD-set-other one (k + 1) k _ 0 (λ e. omega arith) ∙ getD-set-same bs k _ 0 (omega arith);
-        b1 = getD-set-other three (k + 3) (k + 1) _ 0 (λ e. omega arith) ∙ getD-set-other two (k + 2) (k + 1) _ 0 (λ e. omega arith) ∙ getD-set-same one (k + 1) _ 0 (omega arith);
-        b2 = getD-set-other three (k + 3) (k + 2) _ 0 (λ e. omega arith) ∙ getD-set-same two (k + 2) _ 0 (omega arith);
-        b3 = getD-set-same three (k + 3) _ 0 (omega arith);
+        held = held;
+        long = word-long bs k n ∙ l;
+        bytes = λ i hi. within? i k 4
+            (λ d hd q. rw q (word-here bs k n (omega arith) d hd ∙ sym (e d hd)))
+            (λ away. word-beside bs k n i away ∙ st .bytes i hi ∙ same i away);
       }
 
 -- One entry of a table after a store
@@ -99,15 +87,12 @@ module _ {A : Type 0} (l : List A) (i : ℕ) (x d : A) (h : i < length l) where
       (λ q. subst (λ (z : ℕ). P (getD (set l i x) z d)) (sym q) (subst P (sym (getD-set-same l i x d h)) y))
       (λ q. subst P (sym (getD-set-other l i k x d q)) old)
 
-  -- a field that the store keeps
-  pub kept : {B : Type 0} (f : A → B) → f x ≡ f (getD l i d) → (k : ℕ) → f (getD l k d) ≡ f (getD (set l i x) k d)
-  kept f e k =
+  -- what the new one does not change
+  pub kept : {B : Type 0} (f : A → B) (k : ℕ) → (k ≡ i → f x ≡ f (getD l i d)) → f (getD l k d) ≡ f (getD (set l i x) k d)
+  kept f k e =
       either k i
-      (λ q. ap (λ (z : ℕ). f (getD l z d)) q ∙ sym e ∙ ap f (sym (getD-set-same l i x d h)) ∙ ap (λ (z : ℕ). f (getD (set l i x) z d)) (sym q))
+      (λ q. rw q (sym (e q) ∙ ap f (sym (getD-set-same l i x d h))))
       (λ q. ap f (sym (getD-set-other l i k x d q)))
 
-  pub here : {B : Type 0} (f : A → B) → f x ≡ f (getD (set l i x) i d)
-  here f = ap f (sym (getD-set-same l i x d h))
-
-  pub elsewhere : {B : Type 0} (f : A → B) (k : ℕ) → (k ≡ i → ⊥) → f (getD l k d) ≡ f (getD (set l i x) k d)
-  elsewhere f k q = ap f (sym (getD-set-other l i k x d q))
+  pub here : {B : Type 0} (f : A → B) → f (getD (set l i x) i d) ≡ f x
+  here f = ap f (getD-set-same l i x d h)

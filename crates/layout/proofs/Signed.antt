@@ -11,10 +11,10 @@ use mir.Val.{Fits, SFits, ofZ, toZ}
 use mir.ValLaws.{toZ-ofZ, toZ-pos}
 use borrow.Author.Tests.{le-ltb, ltb-true}
 
-pub minus-neg : (n : ℕ) → negsuc 0 -ℤ negsuc n ≡ pos n
+minus-neg : (n : ℕ) → negsuc 0 -ℤ negsuc n ≡ pos n
 minus-neg n = rw (le-ltb (suc n) 1 (omega arith)) (ap pos (omega arith))
 
-pub minus-pos : (n : ℕ) → negsuc 0 -ℤ pos n ≡ negsuc n
+minus-pos : (n : ℕ) → negsuc 0 -ℤ pos n ≡ negsuc n
 minus-pos zero = refl
 minus-pos (suc k) = ap negsuc (omega arith)
 

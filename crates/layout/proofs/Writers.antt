@@ -1,26 +1,28 @@
 -- One field written is one field of the tables changed. Assumes nothing.
-use Prim.Native.Nat.{_*_, _+_, _<_, _≤_, ℕ}
+use Prim.Native.Nat.{_%_, _*_, _+_, _-_, _/_, _<_, ℕ}
+use native.Mathlib.Nat.{div-add-mod'}
 use native.Mathlib.Omega.{arith}
-use mathlib.Core.Path.{_∙_, _≡_, refl, subst, sym}
+use mathlib.Core.Path.{_∙_, _≡_, ap, refl, subst}
 use mathlib.Core.Bool.{Bool}
 use mathlib.Core.List.{List}
-use lib.ListN.{getD, length, length-set, set}
-use lib.Seq.{getD-set-same, set-set}
+use lib.ListN.{length, length-set, set}
+use lib.Seq.{getD-set-other, getD-set-same, set-set}
 use lib.IntN.{ℤ}
 use mir.Syntax.{w32}
 use mir.Val.{SFits, ofZ}
+use borrow.Author.Tests.{le-ltb, lt-ltb}
 use Rattle.tables.specs.declared.State.{State}
 use Rattle.tables.specs.declared.Process.{Process}
 use Rattle.tables.specs.declared.Semaphore.{Semaphore}
 use Rattle.tables.specs.declared.Tables.{Tables}
 use Rattle.tables.specs.Limits.{processLimit, semaphoreLimit}
 use Rattle.tables.specs.Readers.{countOf, freeSemaphore, freeSlot, isUsed, priorityOf, stateOf}
-use Rattle.tables.specs.Setters.{withCount, withNextProcess, withNextSemaphore, withOrder, withPriority, withProcess, withProcesses, withSemaphore, withSemaphores, withState, withUsed}
-use Rattle.lists.proofs.Bools.{either}
+use Rattle.tables.specs.Setters.{withCount, withCursors, withNextProcess, withNextSemaphore, withOrder, withPriority, withProcess, withProcesses, withSemaphore, withSemaphores, withState, withUsed}
+use Rattle.lists.proofs.Bools.{below?}
 use Rattle.layout.specs.Offsets.{countsAt, nextProcessAt, nextSemaphoreAt, orderAt, prioritiesAt, statesAt, usedAt}
-use Rattle.layout.specs.Bytes.{stateByte, usedByte}
-use Rattle.layout.specs.Stands.{Held, Named, Stands, Turns, Word, Words}
-use Rattle.layout.proofs.Regions.{aside, aside-one, aside-words, aside4, aside4-one, aside4-word, elsewhere, entry, here, inside, kept, like, long4, store4, word-here}
+use Rattle.layout.specs.Bytes.{byteOf, stateByte, usedByte, wordByte}
+use Rattle.layout.specs.Stands.{Held, Named, Stands, Turns, store4}
+use Rattle.layout.proofs.Regions.{count-byte, entry, here, kept, place-byte, priority-byte, put-byte, put-word, state-byte, used-byte}
 
 -- What is held after a change
 
@@ -46,159 +48,106 @@ held-semaphore t h s x hs fits =
       row = h .row;
     }
 
+held-place : (t : Tables) → Held t → (j q : ℕ) → j < processLimit → q < processLimit → Held (withOrder t (set (t .order) j q))
+held-place t h j q hj hq =
+    record {
+      slots = h .slots;
+      entries = h .entries;
+      places = length-set (t .order) j q ∙ h .places;
+      waits = h .waits;
+      fits = h .fits;
+      row = λ k hk. entry (t .order) j q 0 (omega (arith, h .places)) (λ (z : ℕ). z < processLimit) hq k (h .row k hk);
+    }
+
+-- What stands at each byte after a change: a part names its own bytes, and the test that bounds it closes all others
+
+module _ (t : Tables) where
+  process-same : (p : ℕ) (x : Process) → p < length (t .processes) → (i : ℕ) → (i ≡ statesAt + p → stateByte (x .state) ≡ stateByte (stateOf t p)) → (i ≡ prioritiesAt + p → x .priority ≡ priorityOf t p) → byteOf t i ≡ byteOf (withProcess t p x) i
+  process-same p x h i state priority =
+      below? i prioritiesAt (λ a. rw (lt-ltb i prioritiesAt a) (kept (t .processes) p x freeSlot h (λ (z : Process). stateByte (z .state)) (i - statesAt) (λ e. state (omega arith))))
+      (λ a. below? i usedAt (λ b. rw (le-ltb i prioritiesAt a, lt-ltb i usedAt b) (kept (t .processes) p x freeSlot h (λ (z : Process). z .priority) (i - prioritiesAt) (λ e. priority (omega arith))))
+      (λ b. rw (le-ltb i prioritiesAt a, le-ltb i usedAt b)))
+
+  semaphore-same : (s : ℕ) (x : Semaphore) → s < length (t .semaphores) → (i : ℕ) → (i ≡ usedAt + s → usedByte (x .used) ≡ usedByte (isUsed t s)) → ((d : ℕ) → d < 4 → i ≡ countsAt + s * 4 + d → x .count ≡ countOf t s) → byteOf t i ≡ byteOf (withSemaphore t s x) i
+  semaphore-same s x h i used count =
+      below? i usedAt (λ a. rw (lt-ltb i usedAt a))
+      (λ a. below? i countsAt (λ b. rw (le-ltb i prioritiesAt (omega arith), le-ltb i usedAt a, lt-ltb i countsAt b) (kept (t .semaphores) s x freeSemaphore h (λ (z : Semaphore). usedByte (z .used)) (i - usedAt) (λ e. used (omega arith))))
+      (λ b. below? i orderAt (λ c. let r : (i - countsAt) / 4 * 4 + (i - countsAt) % 4 ≡ i - countsAt = div-add-mod' (i - countsAt) 4 in
+      rw (le-ltb i prioritiesAt (omega arith), le-ltb i usedAt a, le-ltb i countsAt b, lt-ltb i orderAt c)
+      (kept (t .semaphores) s x freeSemaphore h (λ (z : Semaphore). wordByte (ofZ w32 (z .count)) ((i - countsAt) % 4)) ((i - countsAt) / 4) (λ e. ap (λ (c : ℤ). wordByte (ofZ w32 c) ((i - countsAt) % 4)) (count ((i - countsAt) % 4) (omega arith) (omega arith)))))
+      (λ c. rw (le-ltb i countsAt b, le-ltb i orderAt c))))
+
+  place-same : (j q : ℕ) → j < length (t .order) → (i : ℕ) → (i ≡ orderAt + j → ⊥) → byteOf t i ≡ byteOf (withOrder t (set (t .order) j q)) i
+  place-same j q h i away =
+      below? i orderAt (λ a. rw (lt-ltb i orderAt a))
+      (λ a. below? i nextSemaphoreAt (λ b. rw (getD-set-other (t .order) j (i - orderAt) q 0 (λ e. away (omega arith))))
+      (λ b. rw (le-ltb i nextSemaphoreAt b)))
+
+  cursor-same : (s p i : ℕ) → (i ≡ nextSemaphoreAt → s ≡ t .«next_semaphore») → (i ≡ nextProcessAt → p ≡ t .«next_process») → byteOf t i ≡ byteOf (withCursors t s p) i
+  cursor-same s p i first second =
+      below? i nextSemaphoreAt (λ a. rw (lt-ltb i nextSemaphoreAt a))
+      (λ a. below? i nextProcessAt (λ b. rw (first (omega arith), lt-ltb i nextProcessAt b))
+      (λ b. below? i (nextProcessAt + 1) (λ c. rw (second (omega arith), le-ltb i nextProcessAt b))
+      (λ c. rw (le-ltb i nextProcessAt b, le-ltb i (nextProcessAt + 1) c))))
+
 -- Each field
 
 module _ (t : Tables) (bs : List ℕ) (st : Stands t bs) where
-  put-state : (p : ℕ) (s : State) → p < processLimit → Named s → Stands (withState t p s) (set bs p (stateByte s))
+  put-state : (p : ℕ) (s : State) → p < processLimit → Named s → Stands (withState t p s) (set bs (statesAt + p) (stateByte s))
   put-state p s h named =
       let x : Process = record { state = s; priority = priorityOf t p } in
       let hp : p < length (t .processes) = omega (arith, st .held .slots) in
-      let l = st .long in
-      let v : ℕ = stateByte s in
-      record {
-        held = held-process t (st .held) p x h named;
-        long = length-set bs p v ∙ l;
-        states = inside bs statesAt processLimit (λ k. stateByte (stateOf t k)) (λ k. stateByte (stateOf (withState t p s) k)) p p v (omega arith) h (omega arith)
-            (here (t .processes) p x freeSlot hp (λ (z : Process). stateByte (z .state)))
-            (elsewhere (t .processes) p x freeSlot hp (λ (z : Process). stateByte (z .state))) (st .states);
-        priorities = like prioritiesAt processLimit (priorityOf t) (priorityOf (withState t p s)) (set bs p v) (kept (t .processes) p x freeSlot hp (λ (z : Process). z .priority) refl)
-            (aside bs p v prioritiesAt processLimit (priorityOf t) (λ i hi e. omega arith) (st .priorities));
-        used = aside bs p v usedAt semaphoreLimit _ (λ i hi e. omega arith) (st .used);
-        counts = aside-words bs p v countsAt semaphoreLimit _ (λ i k hi hk e. omega arith) (st .counts);
-        order = aside bs p v orderAt processLimit _ (λ i hi e. omega arith) (st .order);
-        nextSemaphore = aside-one bs p v nextSemaphoreAt _ (λ e. omega arith) (st .nextSemaphore);
-        nextProcess = aside-one bs p v nextProcessAt _ (λ e. omega arith) (st .nextProcess);
-      }
+      put-byte t (withState t p s) bs st (held-process t (st .held) p x h named) (statesAt + p) (stateByte s) (omega arith)
+      (state-byte (withState t p s) p (statesAt + p) h refl ∙ here (t .processes) p x freeSlot hp (λ (y : Process). stateByte (y .state)))
+      (λ i q. process-same t p x hp i (λ e. absurd (q e)) (λ e. refl))
 
   put-priority : (p v : ℕ) → p < processLimit → Stands (withPriority t p v) (set bs (prioritiesAt + p) v)
   put-priority p v h =
       let x : Process = record { state = stateOf t p; priority = v } in
       let hp : p < length (t .processes) = omega (arith, st .held .slots) in
-      let l = st .long in
-      let j : ℕ = prioritiesAt + p in
-      record {
-        held = held-process t (st .held) p x h (st .held .waits p h);
-        long = length-set bs j v ∙ l;
-        states = like statesAt processLimit (λ k. stateByte (stateOf t k)) (λ k. stateByte (stateOf (withPriority t p v) k)) (set bs j v) (kept (t .processes) p x freeSlot hp (λ (z : Process). stateByte (z .state)) refl)
-            (aside bs j v statesAt processLimit (λ k. stateByte (stateOf t k)) (λ i hi e. omega arith) (st .states));
-        priorities = inside bs prioritiesAt processLimit (priorityOf t) (priorityOf (withPriority t p v)) p j v (omega arith) h refl
-            (here (t .processes) p x freeSlot hp (λ (z : Process). z .priority))
-            (elsewhere (t .processes) p x freeSlot hp (λ (z : Process). z .priority)) (st .priorities);
-        used = aside bs j v usedAt semaphoreLimit _ (λ i hi e. omega arith) (st .used);
-        counts = aside-words bs j v countsAt semaphoreLimit _ (λ i k hi hk e. omega arith) (st .counts);
-        order = aside bs j v orderAt processLimit _ (λ i hi e. omega arith) (st .order);
-        nextSemaphore = aside-one bs j v nextSemaphoreAt _ (λ e. omega arith) (st .nextSemaphore);
-        nextProcess = aside-one bs j v nextProcessAt _ (λ e. omega arith) (st .nextProcess);
-      }
+      put-byte t (withPriority t p v) bs st (held-process t (st .held) p x h (st .held .waits p h)) (prioritiesAt + p) v (omega arith)
+      (priority-byte (withPriority t p v) p (prioritiesAt + p) h refl ∙ here (t .processes) p x freeSlot hp (λ (y : Process). y .priority))
+      (λ i q. process-same t p x hp i (λ e. refl) (λ e. absurd (q e)))
 
   put-used : (s : ℕ) (u : Bool) → s < semaphoreLimit → Stands (withUsed t s u) (set bs (usedAt + s) (usedByte u))
-  unfolding Words
   put-used s u h =
       let x : Semaphore = record { used = u; count = countOf t s } in
       let hs : s < length (t .semaphores) = omega (arith, st .held .entries) in
-      let l = st .long in
-      let j : ℕ = usedAt + s in
-      let v : ℕ = usedByte u in
-      record {
-        held = held-semaphore t (st .held) s x h (st .held .fits s);
-        long = length-set bs j v ∙ l;
-        states = aside bs j v statesAt processLimit _ (λ i hi e. omega arith) (st .states);
-        priorities = aside bs j v prioritiesAt processLimit _ (λ i hi e. omega arith) (st .priorities);
-        used = inside bs usedAt semaphoreLimit (λ k. usedByte (isUsed t k)) (λ k. usedByte (isUsed (withUsed t s u) k)) s j v (omega arith) h refl
-            (here (t .semaphores) s x freeSemaphore hs (λ (z : Semaphore). usedByte (z .used)))
-            (elsewhere (t .semaphores) s x freeSemaphore hs (λ (z : Semaphore). usedByte (z .used))) (st .used);
-        counts = λ i hi. subst (λ (z : ℕ). Word (countsAt + i * 4) z (set bs j v)) (kept (t .semaphores) s x freeSemaphore hs (λ (z : Semaphore). ofZ w32 (z .count)) refl i)
-            (aside-words bs j v countsAt semaphoreLimit (λ k. ofZ w32 (countOf t k)) (λ i k hi hk e. omega arith) (st .counts) i hi);
-        order = aside bs j v orderAt processLimit _ (λ i hi e. omega arith) (st .order);
-        nextSemaphore = aside-one bs j v nextSemaphoreAt _ (λ e. omega arith) (st .nextSemaphore);
-        nextProcess = aside-one bs j v nextProcessAt _ (λ e. omega arith) (st .nextProcess);
-      }
+      put-byte t (withUsed t s u) bs st (held-semaphore t (st .held) s x h (st .held .fits s)) (usedAt + s) (usedByte u) (omega arith)
+      (used-byte (withUsed t s u) s (usedAt + s) h refl ∙ here (t .semaphores) s x freeSemaphore hs (λ (y : Semaphore). usedByte (y .used)))
+      (λ i q. semaphore-same t s x hs i (λ e. absurd (q e)) (λ d hd e. refl))
 
   put-count : (s : ℕ) (c : ℤ) → s < semaphoreLimit → SFits w32 c → Stands (withCount t s c) (store4 bs (countsAt + s * 4) (ofZ w32 c))
-  unfolding Words
   put-count s c h f =
-      let k : ℕ = countsAt + s * 4 in
-      let n : ℕ = ofZ w32 c in
       let x : Semaphore = record { used = isUsed t s; count = c } in
       let hs : s < length (t .semaphores) = omega (arith, st .held .entries) in
-      let l = st .long in
-      record {
-        held = held-semaphore t (st .held) s x h f;
-        long = long4 bs k n ∙ l;
-        states = aside4 bs k n statesAt processLimit _ (λ i d hi hd e. omega arith) (st .states);
-        priorities = aside4 bs k n prioritiesAt processLimit _ (λ i d hi hd e. omega arith) (st .priorities);
-        used = like usedAt semaphoreLimit (λ i. usedByte (isUsed t i)) (λ i. usedByte (isUsed (withCount t s c) i)) (store4 bs k n) (kept (t .semaphores) s x freeSemaphore hs (λ (z : Semaphore). usedByte (z .used)) refl)
-            (aside4 bs k n usedAt semaphoreLimit (λ i. usedByte (isUsed t i)) (λ i d hi hd e. omega arith) (st .used));
-        counts = λ i hi. either i s
-            (λ q. subst (λ (z : ℕ). Word (countsAt + z * 4) (ofZ w32 (countOf (withCount t s c) z)) (store4 bs k n)) (sym q)
-            (subst (λ (z : ℕ). Word k z (store4 bs k n)) (here (t .semaphores) s x freeSemaphore hs (λ (z : Semaphore). ofZ w32 (z .count))) (word-here bs k n (omega arith))))
-            (λ q. subst (λ (z : ℕ). Word (countsAt + i * 4) z (store4 bs k n)) (elsewhere (t .semaphores) s x freeSemaphore hs (λ (z : Semaphore). ofZ w32 (z .count)) i q)
-            (aside4-word bs k n (countsAt + i * 4) (ofZ w32 (countOf t i)) (λ a d ha hd e. q (omega arith)) (st .counts i hi)));
-        order = aside4 bs k n orderAt processLimit _ (λ i d hi hd e. omega arith) (st .order);
-        nextSemaphore = aside4-one bs k n nextSemaphoreAt _ (λ d hd e. omega arith) (st .nextSemaphore);
-        nextProcess = aside4-one bs k n nextProcessAt _ (λ d hd e. omega arith) (st .nextProcess);
-      }
+      put-word t (withCount t s c) bs st (held-semaphore t (st .held) s x h f) (countsAt + s * 4) (ofZ w32 c) (omega arith)
+      (λ d hd. count-byte (withCount t s c) s d (countsAt + s * 4 + d) h hd refl ∙ here (t .semaphores) s x freeSemaphore hs (λ (y : Semaphore). wordByte (ofZ w32 (y .count)) d))
+      (λ i q. semaphore-same t s x hs i (λ e. refl) (λ d hd e. absurd (q d hd e)))
 
-  pub put-place : (i q : ℕ) → i < processLimit → q < processLimit → Stands (withOrder t (set (t .order) i q)) (set bs (orderAt + i) q)
-  put-place i q h hq =
-      let ho : i < length (t .order) = omega (arith, st .held .places) in
-      let l = st .long in
-      let j : ℕ = orderAt + i in
-      record {
-        held = record {
-          slots = st .held .slots;
-          entries = st .held .entries;
-          places = length-set (t .order) i q ∙ st .held .places;
-          waits = st .held .waits;
-          fits = st .held .fits;
-          row = λ k hk. entry (t .order) i q 0 ho (λ (z : ℕ). z < processLimit) hq k (st .held .row k hk);
-        };
-        long = length-set bs j q ∙ l;
-        states = aside bs j q statesAt processLimit _ (λ k hk e. omega arith) (st .states);
-        priorities = aside bs j q prioritiesAt processLimit _ (λ k hk e. omega arith) (st .priorities);
-        used = aside bs j q usedAt semaphoreLimit _ (λ k hk e. omega arith) (st .used);
-        counts = aside-words bs j q countsAt semaphoreLimit _ (λ k m hk hm e. omega arith) (st .counts);
-        order = inside bs orderAt processLimit (λ k. getD (t .order) k 0) (λ k. getD (set (t .order) i q) k 0) i j q (omega arith) h refl
-            (here (t .order) i q 0 ho (λ (z : ℕ). z))
-            (elsewhere (t .order) i q 0 ho (λ (z : ℕ). z)) (st .order);
-        nextSemaphore = aside-one bs j q nextSemaphoreAt _ (λ e. omega arith) (st .nextSemaphore);
-        nextProcess = aside-one bs j q nextProcessAt _ (λ e. omega arith) (st .nextProcess);
-      }
-
-  -- a byte behind the row: one of the cursors
-  put-cursor : (t′ : Tables) (j v : ℕ) → nextSemaphoreAt ≤ j → Held t′
-      → t′ .processes ≡ t .processes → t′ .semaphores ≡ t .semaphores → t′ .order ≡ t .order
-      → getD (set bs j v) nextSemaphoreAt 0 ≡ t′ .«next_semaphore» → getD (set bs j v) nextProcessAt 0 ≡ t′ .«next_process» → Stands t′ (set bs j v)
-  put-cursor t′ j v h held ep es eo ns np =
-      let l = st .long in
-      record {
-        held = held;
-        long = length-set bs j v ∙ l;
-        states = rw ep (aside bs j v statesAt processLimit _ (λ i hi e. omega arith) (st .states));
-        priorities = rw ep (aside bs j v prioritiesAt processLimit _ (λ i hi e. omega arith) (st .priorities));
-        used = rw es (aside bs j v usedAt semaphoreLimit _ (λ i hi e. omega arith) (st .used));
-        counts = rw es (aside-words bs j v countsAt semaphoreLimit _ (λ i k hi hk e. omega arith) (st .counts));
-        order = rw eo (aside bs j v orderAt processLimit _ (λ i hi e. omega arith) (st .order));
-        nextSemaphore = ns;
-        nextProcess = np;
-      }
+  put-place : (j q : ℕ) → j < processLimit → q < processLimit → Stands (withOrder t (set (t .order) j q)) (set bs (orderAt + j) q)
+  put-place j q h hq =
+      let ho : j < length (t .order) = omega (arith, st .held .places) in
+      let t′ : Tables = withOrder t (set (t .order) j q) in
+      put-byte t t′ bs st (held-place t (st .held) j q h hq) (orderAt + j) q (omega arith)
+      (place-byte t′ j (orderAt + j) h refl ∙ getD-set-same (t .order) j q 0 ho) (place-same t j q ho)
 
 -- As writers
 
 module _ (bs : List ℕ) where
-  pub state-turns : (p : ℕ) (s : State) → p < processLimit → Named s → Turns (λ t. withState t p s) bs (set bs p (stateByte s))
+  pub state-turns : (p : ℕ) (s : State) → p < processLimit → Named s → Turns (λ t. withState t p s) bs (set bs (statesAt + p) (stateByte s))
   unfolding Turns
   state-turns p s h named t st = put-state t bs st p s h named
 
-  pub process-turns : (p : ℕ) (x : Process) → p < processLimit → Named (x .state) → Turns (λ t. withProcess t p x) bs (set (set bs p (stateByte (x .state))) (prioritiesAt + p) (x .priority))
+  pub process-turns : (p : ℕ) (x : Process) → p < processLimit → Named (x .state) → Turns (λ t. withProcess t p x) bs (set (set bs (statesAt + p) (stateByte (x .state))) (prioritiesAt + p) (x .priority))
   unfolding Turns
   process-turns p x h named t st =
       let y : Process = record { state = x .state; priority = priorityOf t p } in
       let hp : p < length (t .processes) = omega (arith, st .held .slots) in
-      let b : List ℕ = set (set bs p (stateByte (x .state))) (prioritiesAt + p) (x .priority) in
+      let b : List ℕ = set (set bs (statesAt + p) (stateByte (x .state))) (prioritiesAt + p) (x .priority) in
       subst (λ (z : List Process). Stands (withProcesses t z) b) (set-set (t .processes) p y x)
-      (subst (λ (z : State). Stands (withProcess (withState t p (x .state)) p (record { state = z; priority = x .priority })) b) (sym (here (t .processes) p y freeSlot hp (λ (z : Process). z .state)))
-      (put-priority (withState t p (x .state)) (set bs p (stateByte (x .state))) (put-state t bs st p (x .state) h named) p (x .priority) h))
+      (subst (λ (z : State). Stands (withProcess (withState t p (x .state)) p (record { state = z; priority = x .priority })) b) (here (t .processes) p y freeSlot hp (λ (z : Process). z .state))
+      (put-priority (withState t p (x .state)) (set bs (statesAt + p) (stateByte (x .state))) (put-state t bs st p (x .state) h named) p (x .priority) h))
 
   pub used-turns : (s : ℕ) (u : Bool) → s < semaphoreLimit → Turns (λ t. withUsed t s u) bs (set bs (usedAt + s) (usedByte u))
   unfolding Turns
@@ -215,20 +164,14 @@ module _ (bs : List ℕ) where
   pub next-semaphore-turns : (s : ℕ) → Turns (λ t. withNextSemaphore t s) bs (set bs nextSemaphoreAt s)
   unfolding Turns
   next-semaphore-turns s t st =
-      let l = st .long in
-      let h = st .held in
-      put-cursor t bs st (withNextSemaphore t s) nextSemaphoreAt s (omega arith)
-      (record { slots = h .slots; entries = h .entries; places = h .places; waits = h .waits; fits = h .fits; row = h .row }) refl refl refl
-      (getD-set-same bs nextSemaphoreAt s 0 (omega arith)) (aside-one bs nextSemaphoreAt s nextProcessAt _ (λ e. omega arith) (st .nextProcess))
+      put-byte t (withNextSemaphore t s) bs st (st .held) nextSemaphoreAt s (omega arith) refl
+      (λ i q. cursor-same t s (t .«next_process») i (λ e. absurd (q e)) (λ e. refl))
 
   pub next-process-turns : (p : ℕ) → Turns (λ t. withNextProcess t p) bs (set bs nextProcessAt p)
   unfolding Turns
   next-process-turns p t st =
-      let l = st .long in
-      let h = st .held in
-      put-cursor t bs st (withNextProcess t p) nextProcessAt p (omega arith)
-      (record { slots = h .slots; entries = h .entries; places = h .places; waits = h .waits; fits = h .fits; row = h .row }) refl refl refl
-      (aside-one bs nextProcessAt p nextSemaphoreAt _ (λ e. omega arith) (st .nextSemaphore)) (getD-set-same bs nextProcessAt p 0 (omega arith))
+      put-byte t (withNextProcess t p) bs st (st .held) nextProcessAt p (omega arith) refl
+      (λ i q. cursor-same t (t .«next_semaphore») p i (λ e. refl) (λ e. absurd (q e)))
 
 -- a semaphore written whole: its used flag, then its count
 pub semaphore-turns : (s : ℕ) (x : Semaphore) (a b c : List ℕ) → s < semaphoreLimit → Turns (λ t. withUsed t s (x .used)) a b → Turns (λ t. withCount t s (x .count)) b c → Turns (λ t. withSemaphore t s x) a c
@@ -237,5 +180,5 @@ semaphore-turns s x a b c h f g t st =
     let hs : s < length (t .semaphores) = omega (arith, st .held .entries) in
     let y : Semaphore = record { used = x .used; count = countOf t s } in
     subst (λ (z : List Semaphore). Stands (withSemaphores t z) c) (set-set (t .semaphores) s y x)
-    (subst (λ (z : Bool). Stands (withSemaphore (withUsed t s (x .used)) s (record { used = z; count = x .count })) c) (sym (here (t .semaphores) s y freeSemaphore hs (λ (z : Semaphore). z .used)))
+    (subst (λ (z : Bool). Stands (withSemaphore (withUsed t s (x .used)) s (record { used = z; count = x .count })) c) (here (t .semaphores) s y freeSemaphore hs (λ (z : Semaphore). z .used))
     (g (withUsed t s (x .used)) (f t st)))

@@ -3,7 +3,6 @@ use Prim.Native.Nat.{ℕ, _+_, _*_, _-_, _/_, _%_}
 use mathlib.Core.Bool.{Bool, true, false, _&&_}
 use mathlib.Core.List.{List}
 use lib.ListN.{getD, length}
-use lib.IntN.{ℤ}
 use lib.Dec.{eqb, ltb}
 use mir.Syntax.{w32}
 use mir.Val.{ofZ, toZ}
@@ -47,29 +46,29 @@ abbrev pub usedByte : Bool → ℕ
 usedByte true = 1
 usedByte false = 0
 
--- byte k of a count in two's complement, low byte first
-abbrev pub countByte : ℤ → ℕ → ℕ
-countByte c k =
-    let n : ℕ = ofZ w32 c in
-    if eqb k 0 then n % 256 else
-    if eqb k 1 then n / 256 % 256 else
-    if eqb k 2 then n / 65536 % 256 else
+-- byte d of a word, low byte first
+abbrev pub wordByte : ℕ → ℕ → ℕ
+wordByte n d =
+    if eqb d 0 then n % 256 else
+    if eqb d 1 then n / 256 % 256 else
+    if eqb d 2 then n / 65536 % 256 else
     n / 16777216 % 256
 
 -- the number of four bytes, low byte first
 abbrev pub of4 : ℕ → ℕ → ℕ → ℕ → ℕ
 of4 a b c d = a + b * 256 + c * 65536 + d * 16777216
 
--- byte i of the tables
+-- byte i of the tables: each field ends where the next begins, and past the last field nothing stands. A count is a word in two's complement
 abbrev pub byteOf : Tables → ℕ → ℕ
 byteOf t i =
     if ltb i prioritiesAt then stateByte (stateOf t (i - statesAt)) else
     if ltb i usedAt then priorityOf t (i - prioritiesAt) else
     if ltb i countsAt then usedByte (isUsed t (i - usedAt)) else
-    if ltb i orderAt then countByte (countOf t ((i - countsAt) / 4)) ((i - countsAt) % 4) else
+    if ltb i orderAt then wordByte (ofZ w32 (countOf t ((i - countsAt) / 4))) ((i - countsAt) % 4) else
     if ltb i nextSemaphoreAt then getD (t .order) (i - orderAt) 0 else
     if ltb i nextProcessAt then t .«next_semaphore» else
-    t .«next_process»
+    if ltb i (nextProcessAt + 1) then t .«next_process» else
+    0
 
 unfoldable pub toBytes : Tables → List ℕ
 toBytes t = listed 0 size (byteOf t)
@@ -79,11 +78,12 @@ toBytes t = listed 0 size (byteOf t)
 abbrev pub processAt : List ℕ → ℕ → Process
 processAt bs p = record { state = byteState (getD bs (statesAt + p) 0); priority = getD bs (prioritiesAt + p) 0 }
 
+-- the word that begins at k
 abbrev pub wordAt : List ℕ → ℕ → ℕ
-wordAt bs s = of4 (getD bs (countsAt + s * 4) 0) (getD bs (countsAt + s * 4 + 1) 0) (getD bs (countsAt + s * 4 + 2) 0) (getD bs (countsAt + s * 4 + 3) 0)
+wordAt bs k = of4 (getD bs k 0) (getD bs (k + 1) 0) (getD bs (k + 2) 0) (getD bs (k + 3) 0)
 
 abbrev pub semaphoreAt : List ℕ → ℕ → Semaphore
-semaphoreAt bs s = record { used = eqb (getD bs (usedAt + s) 0) 1; count = toZ w32 (wordAt bs s) }
+semaphoreAt bs s = record { used = eqb (getD bs (usedAt + s) 0) 1; count = toZ w32 (wordAt bs (countsAt + s * 4)) }
 
 abbrev pub placeAt : List ℕ → ℕ → ℕ
 placeAt bs i = getD bs (orderAt + i) 0

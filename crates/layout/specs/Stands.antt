@@ -1,34 +1,24 @@
 -- Code works on the lent bytes, and is spoken of by the tables that they stand for.
-use Prim.Native.Nat.{ℕ, _+_, _*_, _/_, _%_, _<_}
+use Prim.Native.Nat.{ℕ, _+_, _<_}
 use mathlib.Core.Path.{_≡_}
 use mathlib.Core.List.{List}
-use lib.ListN.{getD, length}
+use lib.ListN.{getD, length, set}
 use mir.Syntax.{w32}
-use mir.Val.{ofZ}
+use mir.Val.{SFits}
 use Rattle.tables.specs.declared.State.{State}
 use Rattle.tables.specs.declared.State.the-variants.{Free, Current, Ready, Suspended, Waiting}
+use Rattle.tables.specs.declared.Process.{Process}
+use Rattle.tables.specs.declared.Semaphore.{Semaphore}
 use Rattle.tables.specs.declared.Tables.{Tables}
 use Rattle.tables.specs.Limits.{processLimit, semaphoreLimit}
-use Rattle.tables.specs.Readers.{stateOf, priorityOf, isUsed, countOf}
-use Rattle.tables.specs.Counts.{CountsFit}
+use Rattle.tables.specs.Readers.{freeSemaphore, freeSlot}
 use Rattle.tables.specs.Sound.{Sound}
-use Rattle.layout.specs.Offsets.{statesAt, prioritiesAt, usedAt, countsAt, orderAt, nextSemaphoreAt, nextProcessAt, size}
-use Rattle.layout.specs.Bytes.{stateByte, usedByte}
+use Rattle.layout.specs.Offsets.{size}
+use Rattle.layout.specs.Bytes.{byteOf, wordByte}
 
--- the n bytes from `at` on are f
-unfoldable pub Region : ℕ → ℕ → (ℕ → ℕ) → List ℕ → Type 0
-Region at n f bs = (i : ℕ) → i < n → getD bs (at + i) 0 ≡ f i
-
--- the four bytes from k on are n, low byte first
-pub record Word (k n : ℕ) (bs : List ℕ) : Type 0 where
-  pub b0 : getD bs k 0 ≡ n % 256
-  pub b1 : getD bs (k + 1) 0 ≡ n / 256 % 256
-  pub b2 : getD bs (k + 2) 0 ≡ n / 65536 % 256
-  pub b3 : getD bs (k + 3) 0 ≡ n / 16777216 % 256
-
--- the n words from `at` on are f
-unfoldable pub Words : ℕ → ℕ → (ℕ → ℕ) → List ℕ → Type 0
-Words at n f bs = (i : ℕ) → i < n → Word (at + i * 4) (f i) bs
+-- a word written from k on
+abbrev pub store4 : List ℕ → ℕ → ℕ → List ℕ
+store4 bs k n = set (set (set (set bs k (wordByte n 0)) (k + 1) (wordByte n 1)) (k + 2) (wordByte n 2)) (k + 3) (wordByte n 3)
 
 -- a state that has a byte
 abbrev pub Named : State → Type 0
@@ -38,26 +28,23 @@ Named Ready = Unit
 Named Suspended = Unit
 Named (Waiting s) = s < semaphoreLimit
 
--- what the bytes can hold
-pub record Held (t : Tables) : Type 0 where
-  pub slots : length (t .processes) ≡ processLimit
-  pub entries : length (t .semaphores) ≡ semaphoreLimit
-  pub places : length (t .order) ≡ processLimit
-  pub waits : (p : ℕ) → p < processLimit → Named (stateOf t p)
-  pub fits : CountsFit t
-  pub row : (i : ℕ) → i < processLimit → getD (t .order) i 0 < processLimit
+-- what the bytes can hold, said of the lists alone: a change of anything else keeps it
+pub record HeldIn (processes : List Process) (semaphores : List Semaphore) (order : List ℕ) : Type 0 where
+  pub slots : length processes ≡ processLimit
+  pub entries : length semaphores ≡ semaphoreLimit
+  pub places : length order ≡ processLimit
+  pub waits : (p : ℕ) → p < processLimit → Named (getD processes p freeSlot .state)
+  pub fits : (s : ℕ) → SFits w32 (getD semaphores s freeSemaphore .count)
+  pub row : (i : ℕ) → i < processLimit → getD order i 0 < processLimit
+
+abbrev pub Held : Tables → Type 0
+Held t = HeldIn (t .processes) (t .semaphores) (t .order)
 
 -- the lent bytes are these tables
 pub record Stands (t : Tables) (bs : List ℕ) : Type 0 where
   pub held : Held t
   pub long : length bs ≡ size
-  pub states : Region statesAt processLimit (λ p. stateByte (stateOf t p)) bs
-  pub priorities : Region prioritiesAt processLimit (priorityOf t) bs
-  pub used : Region usedAt semaphoreLimit (λ s. usedByte (isUsed t s)) bs
-  pub counts : Words countsAt semaphoreLimit (λ s. ofZ w32 (countOf t s)) bs
-  pub order : Region orderAt processLimit (λ i. getD (t .order) i 0) bs
-  pub nextSemaphore : getD bs nextSemaphoreAt 0 ≡ t .«next_semaphore»
-  pub nextProcess : getD bs nextProcessAt 0 ≡ t .«next_process»
+  pub bytes : (i : ℕ) → i < size → getD bs i 0 ≡ byteOf t i
 
 -- a writer: bytes that are t become bytes that are f t
 unfoldable pub Turns : (Tables → Tables) → List ℕ → List ℕ → Type 0

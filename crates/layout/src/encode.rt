@@ -1,90 +1,57 @@
-// Typed tables written to lent bytes, field by field from the front.
+// Typed tables written to lent bytes, byte by byte.
 use crate::offsets::COUNTS;
 use crate::offsets::NEXT_PROCESS;
 use crate::offsets::NEXT_SEMAPHORE;
 use crate::offsets::ORDER;
 use crate::offsets::PRIORITIES;
+use crate::offsets::SIZE;
+use crate::offsets::STATES;
 use crate::offsets::USED;
 use crate::state::state_byte;
 use crate::word::unsigned;
+use crate::word::word_byte;
 use tables::Tables;
 ghost use mathlib.Core.Path.{_≡_};
 ghost use lib.ListN.{length};
 ghost use Rattle.tables.specs.Counts.{CountsFit};
-ghost use Rattle.layout.specs.Offsets.{statesAt, prioritiesAt, usedAt, countsAt, orderAt, nextSemaphoreAt, size};
+ghost use Rattle.layout.specs.Offsets.{size};
 ghost use Rattle.layout.specs.Bytes.{toBytes};
-ghost use Rattle.layout.specs.Begun.{Begun};
-
-fn put_states(bytes: &mut [u8], t: Tables)
-    requires { ⌜ Begun t statesAt (now bytes) ⌝ }
-    ensures { λ _. ⌜ Begun t prioritiesAt (now (bytes .exit)) ⌝ }
-{
-    let processes = t.processes;
-    for i in 0..Tables::PROCESSES {
-        let x = processes[i];
-        let state = x.state;
-        bytes[i] = state_byte(state);
-    }
-}
-
-fn put_priorities(bytes: &mut [u8], t: Tables)
-    requires { ⌜ Begun t prioritiesAt (now bytes) ⌝ }
-    ensures { λ _. ⌜ Begun t usedAt (now (bytes .exit)) ⌝ }
-{
-    let processes = t.processes;
-    for i in 0..Tables::PROCESSES {
-        let x = processes[i];
-        bytes[PRIORITIES + i] = x.priority;
-    }
-}
-
-fn put_flags(bytes: &mut [u8], t: Tables)
-    requires { ⌜ Begun t usedAt (now bytes) ⌝ }
-    ensures { λ _. ⌜ Begun t countsAt (now (bytes .exit)) ⌝ }
-{
-    let semaphores = t.semaphores;
-    for i in 0..Tables::SEMAPHORES {
-        let x = semaphores[i];
-        bytes[USED + i] = x.used as u8;
-    }
-}
-
-fn put_counts(bytes: &mut [u8], t: Tables)
-    requires { ⌜ Begun t countsAt (now bytes) ⌝ }
-    ensures { λ _. ⌜ Begun t orderAt (now (bytes .exit)) × CountsFit t ⌝ }
-{
-    let semaphores = t.semaphores;
-    for i in 0..Tables::SEMAPHORES {
-        let x = semaphores[i];
-        let u = unsigned(x.count);
-        let k = COUNTS + i * 4;
-        bytes[k] = (u % 256) as u8;
-        bytes[k + 1] = (u / 256 % 256) as u8;
-        bytes[k + 2] = (u / 65536 % 256) as u8;
-        bytes[k + 3] = (u / 16777216 % 256) as u8;
-    }
-}
-
-fn put_order(bytes: &mut [u8], t: Tables)
-    requires { ⌜ Begun t orderAt (now bytes) ⌝ }
-    ensures { λ _. ⌜ Begun t nextSemaphoreAt (now (bytes .exit)) ⌝ }
-{
-    let order = t.order;
-    for i in 0..Tables::PROCESSES {
-        bytes[ORDER + i] = order[i];
-    }
-}
 
 // That each count fits its type is handed on, since it is learnt only as the count is read.
 pub fn encode(bytes: &mut [u8], t: Tables)
     requires { ⌜ length (now bytes) ≡ size ⌝ }
     ensures { λ _. ⌜ (now (bytes .exit) ≡ toBytes t) × CountsFit t ⌝ }
 {
-    put_states(bytes, t);
-    put_priorities(bytes, t);
-    put_flags(bytes, t);
-    put_counts(bytes, t);
-    put_order(bytes, t);
-    bytes[NEXT_SEMAPHORE] = t.next_semaphore;
-    bytes[NEXT_PROCESS] = t.next_process;
+    for i in 0..SIZE {
+        if i < PRIORITIES {
+            let x = t.processes[i - STATES];
+            let state = x.state;
+            bytes[i] = state_byte(state);
+            continue;
+        }
+        if i < USED {
+            let x = t.processes[i - PRIORITIES];
+            bytes[i] = x.priority;
+            continue;
+        }
+        if i < COUNTS {
+            let x = t.semaphores[i - USED];
+            bytes[i] = x.used as u8;
+            continue;
+        }
+        if i < ORDER {
+            let x = t.semaphores[(i - COUNTS) / 4];
+            bytes[i] = word_byte(unsigned(x.count), (i - COUNTS) % 4);
+            continue;
+        }
+        if i < NEXT_SEMAPHORE {
+            bytes[i] = t.order[i - ORDER];
+            continue;
+        }
+        if i < NEXT_PROCESS {
+            bytes[i] = t.next_semaphore;
+            continue;
+        }
+        bytes[i] = t.next_process;
+    }
 }

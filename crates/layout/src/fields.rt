@@ -4,32 +4,41 @@ use crate::offsets::NEXT_PROCESS;
 use crate::offsets::NEXT_SEMAPHORE;
 use crate::offsets::ORDER;
 use crate::offsets::PRIORITIES;
+use crate::offsets::STATES;
 use crate::offsets::USED;
 use crate::state::byte_state;
 use crate::state::state_byte;
+use crate::word::put_word;
 use crate::word::signed;
 use crate::word::unsigned;
-use crate::word::word;
+use crate::word::word_at;
 use tables::Process;
 use tables::State;
 ghost use mathlib.Core.Path.{_≡_};
-ghost use Prim.Native.Nat.{_<_};
+ghost use Prim.Native.Nat.{_+_, _<_};
 ghost use lib.ListN.{length, getD, set};
 ghost use Rattle.tables.specs.Limits.{processLimit, semaphoreLimit};
 ghost use Rattle.tables.specs.Readers.{process, isUsed, countOf};
 ghost use Rattle.tables.specs.Setters.{withProcess, withState, withSemaphore, withUsed, withCount, withOrder, withNextSemaphore, withNextProcess};
-ghost use Rattle.layout.specs.Offsets.{size};
+ghost use Rattle.layout.specs.Offsets.{prioritiesAt, size};
+ghost use Rattle.layout.specs.Bytes.{processAt};
 ghost use Rattle.layout.specs.Stands.{Named, Turns, Tells};
+
+pub fn process_at(bytes: &[u8], i: usize) -> Process
+    requires { ⌜ prioritiesAt + i < length (now bytes) ⌝ }
+    ensures { λ r. ⌜ r ≡ processAt (now (bytes .entry)) i ⌝ }
+{
+    Process {
+        state: byte_state(bytes[STATES + i]),
+        priority: bytes[PRIORITIES + i],
+    }
+}
 
 pub fn process(bytes: &[u8], p: u8) -> Process
     requires { ⌜ length (now bytes) ≡ size ⌝ }
     ensures { λ r. ⌜ (p < processLimit → Tells (λ t. process t p) (now (bytes .entry)) r) ⌝ }
 {
-    let i = p as usize;
-    Process {
-        state: byte_state(bytes[i]),
-        priority: bytes[PRIORITIES + i],
-    }
+    process_at(bytes, p as usize)
 }
 
 pub fn put_state(bytes: &mut [u8], p: u8, state: State)
@@ -37,7 +46,7 @@ pub fn put_state(bytes: &mut [u8], p: u8, state: State)
     ensures { λ _. ⌜ (p < processLimit → Turns (λ t. withState t p state) (now (bytes .entry)) (now (bytes .exit))) ⌝ }
 {
     let i = p as usize;
-    bytes[i] = state_byte(state);
+    bytes[STATES + i] = state_byte(state);
 }
 
 pub fn put_process(bytes: &mut [u8], p: u8, entry: Process)
@@ -46,7 +55,7 @@ pub fn put_process(bytes: &mut [u8], p: u8, entry: Process)
 {
     let i = p as usize;
     let state = entry.state;
-    bytes[i] = state_byte(state);
+    bytes[STATES + i] = state_byte(state);
     bytes[PRIORITIES + i] = entry.priority;
 }
 
@@ -68,20 +77,14 @@ pub fn count(bytes: &[u8], s: u8) -> i32
     requires { ⌜ (length (now bytes) ≡ size) × (s < semaphoreLimit) ⌝ }
     ensures { λ r. ⌜ Tells (λ t. countOf t s) (now (bytes .entry)) r ⌝ }
 {
-    let k = COUNTS + (s as usize) * 4;
-    signed(word(bytes[k], bytes[k + 1], bytes[k + 2], bytes[k + 3]))
+    signed(word_at(bytes, COUNTS + (s as usize) * 4))
 }
 
 pub fn put_count(bytes: &mut [u8], s: u8, count: i32)
     requires { ⌜ (length (now bytes) ≡ size) × (s < semaphoreLimit) ⌝ }
     ensures { λ _. ⌜ Turns (λ t. withCount t s count) (now (bytes .entry)) (now (bytes .exit)) ⌝ }
 {
-    let u = unsigned(count);
-    let k = COUNTS + (s as usize) * 4;
-    bytes[k] = (u % 256) as u8;
-    bytes[k + 1] = (u / 256 % 256) as u8;
-    bytes[k + 2] = (u / 65536 % 256) as u8;
-    bytes[k + 3] = (u / 16777216 % 256) as u8;
+    put_word(bytes, COUNTS + (s as usize) * 4, unsigned(count));
 }
 
 pub fn put_semaphore(bytes: &mut [u8], s: u8, used: bool, count: i32)

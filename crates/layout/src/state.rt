@@ -4,7 +4,7 @@ use tables::Tables;
 ghost use mathlib.Core.Path.{_≡_};
 ghost use Rattle.layout.specs.Bytes.{stateByte, byteState};
 
-// The byte of waiting on semaphore 0, and the bytes of the other states.
+// The byte of each state. A process that waits on s has WAITING + s.
 pub const FREE: u8 = 0;
 
 pub const CURRENT: u8 = 1;

@@ -50,6 +50,14 @@ module _ {A : Type 0} (m l : List A) where
   pub filled-all : (n k : ℕ) → k ≡ n → length l ≡ n → length m ≡ n → take k l ≡ take k m → l ≡ m
   filled-all n k h hl hm e = sym (take-all k l (omega arith)) ∙ e ∙ take-all k m (omega arith)
 
+-- the same where the goal is listed
+module _ {A : Type 0} (f : ℕ → A) (n : ℕ) (l : List A) (long : length l ≡ n) where
+  pub listed-next : (k : ℕ) (z v : A) → take k l ≡ take k (listed 0 n f) → k < n → v ≡ f k → take (k + 1) (set l k v) ≡ take (k + 1) (listed 0 n f)
+  listed-next k z v e h q = let m = listed-length f 0 n in filled-next (listed 0 n f) l k z v e (omega arith) (omega arith) (q ∙ sym (listed-at f n k z h))
+
+  pub listed-done : (k : ℕ) → k ≡ n → take k l ≡ take k (listed 0 n f) → l ≡ listed 0 n f
+  listed-done k h e = filled-all (listed 0 n f) l n k h long (listed-length f 0 n) e
+
 -- all
 
 module _ (f : ℕ → Bool) where

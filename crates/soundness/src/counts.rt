@@ -2,7 +2,7 @@
 use layout::offsets::COUNTS;
 use layout::offsets::USED;
 use layout::state::WAITING;
-use layout::word::word;
+use layout::word::word_at;
 use tables::Tables;
 ghost use mathlib.Core.Path.{_≡_};
 ghost use Prim.Native.Nat.{ℕ, _<_, _-_};
@@ -65,13 +65,7 @@ pub fn counts_fit(bytes: &[u8], many: [u8; Tables::SEMAPHORES]) -> bool
 {
     let mut ok = true;
     for i in 0..Tables::SEMAPHORES {
-        let k = COUNTS + i * 4;
-        ok = ok
-            & count_fits(
-                bytes[USED + i],
-                word(bytes[k], bytes[k + 1], bytes[k + 2], bytes[k + 3]),
-                many[i],
-            );
+        ok = ok & count_fits(bytes[USED + i], word_at(bytes, COUNTS + i * 4), many[i]);
     }
     ok
 }

@@ -10,7 +10,7 @@ use Rattle.layout.specs.Bytes.{toBytes}
 use Rattle.rules.specs.Enter.{numbered}
 use Rattle.soundness.specs.Good.{good}
 use Rattle.tables.specs.Limits.{processLimit, semaphoreLimit}
-use Rattle.layout.proofs.BegunLaws.{unmapped}
+use Rattle.layout.proofs.Image.{unmapped}
 use Rattle.lists.proofs.Bools.{not-false, not-true}
 use Rattle.cottonsedge.proofs.value.call.Statement.{statement}
 use Rattle.cottonsedge.proofs.ByValue.{value-called, value-small, value-unsound}

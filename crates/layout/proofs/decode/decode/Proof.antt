@@ -9,8 +9,8 @@ processes-requires c κs = search needs
 semaphores-requires : tie.Need-semaphores-requires
 semaphores-requires c κs = search needs
 
-order-requires : tie.Need-order-requires
-order-requires c κs = search needs
+row-at-requires : tie.Need-row-at-requires
+row-at-requires c κs = search needs
 
 shared-slice-read-t6 : tie.Need-shared-slice-read-t6
 shared-slice-read-t6 c = search needs
@@ -20,7 +20,7 @@ shared-slice-read-t8 c = search needs
 
 returns : tie.Need-returns
 unfolding fromBytes
-returns c = rw (c .before .before .before .before .processes .ensures, c .before .before .before .semaphores .ensures, c .before .before .order .ensures)
+returns c = rw (c .before .before .before .before .processes .ensures, c .before .before .before .semaphores .ensures, c .before .before .row-at .ensures)
 
 pub decode-spec : {M : Type 1} → statement M
 decode-spec =
@@ -28,7 +28,7 @@ decode-spec =
     (tie.spec
     processes-requires
     semaphores-requires
-    order-requires
+    row-at-requires
     shared-slice-read-t6
     shared-slice-read-t8
     returns)

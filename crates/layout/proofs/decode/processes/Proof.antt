@@ -1,19 +1,20 @@
-use Prim.Native.Nat.{_+_, _-_, _≤_, ℕ}
+-- The entries before i are those that the bytes say. Assumes nothing.
+use Prim.Native.Nat.{_-_, _≤_}
 use native.Mathlib.Omega.{arith}
-use mathlib.Core.Path.{_∙_, _≡_, ap, refl, sym}
-use lib.ListN.{getD, length, length-set, take}
+use mathlib.Core.Path.{_≡_, refl}
+use lib.ListN.{length, length-set, take}
 use borrow.Author.Needs.{needs}
+use Rattle.lists.specs.Numbers.{listed}
 use Rattle.tables.specs.Limits.{processLimit}
 use Rattle.tables.specs.Readers.{freeSlot}
-use Rattle.lists.proofs.NumberLaws.{filled-all, filled-next}
-use Rattle.layout.specs.Bytes.{byteState, fromBytes}
-use Rattle.layout.specs.Offsets.{prioritiesAt, size, statesAt}
+use Rattle.lists.proofs.NumberLaws.{listed-done, listed-next}
+use Rattle.layout.specs.Bytes.{processAt}
+use Rattle.layout.specs.Offsets.{size}
 use Rattle.layout.proofs.decode.processes.Statement.{statement}
-use Rattle.layout.proofs.Image.{process-said, processes-long}
 use Rattle.layout.proofs.decode.processes.Tie as tie
 
 abbrev Inv-loop : tie.InvT-loop
-Inv-loop bytes entries₀ i₀ entries i = (i ≤ processLimit) × (length entries ≡ processLimit) × (take i entries ≡ take i (fromBytes bytes .processes)) × (length bytes ≡ size)
+Inv-loop bytes entries₀ i₀ entries i = (i ≤ processLimit) × (length entries ≡ processLimit) × (take i entries ≡ take i (listed 0 processLimit (processAt bytes))) × (length bytes ≡ size)
 
 abbrev μ-loop : tie.MeasureT-loop
 μ-loop bytes entries₀ i₀ entries i = processLimit - i
@@ -21,17 +22,8 @@ abbrev μ-loop : tie.MeasureT-loop
 loop-holds : tie.Need-loop-holds Inv-loop μ-loop
 loop-holds c = (search needs, search needs, refl, search needs)
 
-shared-slice-read-byte-state : tie.Need-shared-slice-read-byte-state Inv-loop μ-loop
-shared-slice-read-byte-state c = search needs
-
-byte-state-requires : tie.Need-byte-state-requires Inv-loop μ-loop
-byte-state-requires c κs = search needs
-
-add-t10 : tie.Need-add-t10 Inv-loop μ-loop
-add-t10 c = search needs
-
-shared-slice-read-t12 : tie.Need-shared-slice-read-t12 Inv-loop μ-loop
-shared-slice-read-t12 c = search needs
+process-at-requires : tie.Need-process-at-requires Inv-loop μ-loop
+process-at-requires c κs = search needs
 
 mul-entries : tie.Need-mul-entries Inv-loop μ-loop
 mul-entries c = search needs
@@ -47,16 +39,16 @@ loop-less c = search needs
 
 loop-again : tie.Need-loop-again Inv-loop μ-loop
 loop-again c =
-    let i = c .before .before .before .before .loop .i in
-    let bs = c .before .before .before .before .before .before .args .bytes .now in
-    let m : length (fromBytes bs .processes) ≡ processLimit = processes-long bs in
-    let z : statesAt + i ≡ i = omega arith in
-    (search needs, simp length-set (c .before .before .before .before .loop .inv .1), filled-next (fromBytes bs .processes) (c .before .before .before .before .loop .entries) i freeSlot _ (c .before .before .before .before .loop .inv .2) (omega arith) (omega arith) (rw (c .before .byte-state .ensures) (sym (process-said bs i (omega arith) ∙ ap (λ (k : ℕ). record { state = byteState (getD bs k 0); priority = getD bs (prioritiesAt + i) 0 }) z))), search needs)
+    let bs = c .before .before .before .before .args .bytes .now in
+    let i = c .before .before .loop .i in
+    let inv = c .before .before .loop .inv in
+    (search needs, simp length-set (inv .1), listed-next (processAt bs) processLimit (c .before .before .loop .entries) (inv .1) i freeSlot _ (inv .2) (omega arith) (c .process-at .ensures), search needs)
 
 returns : tie.Need-returns Inv-loop μ-loop
 returns c =
-    let k : c .before .loop .i ≡ processLimit = omega arith in
-    filled-all _ _ processLimit _ k (c .before .loop .inv .1) (processes-long _) (c .before .loop .inv .2)
+    let bs = c .before .before .before .args .bytes .now in
+    let inv = c .before .loop .inv in
+    listed-done (processAt bs) processLimit (c .before .loop .entries) (inv .1) (c .before .loop .i) (omega arith) (inv .2)
 
 pub processes-spec : {M : Type 1} → statement M
 processes-spec =
@@ -65,10 +57,7 @@ processes-spec =
     Inv-loop
     μ-loop
     loop-holds
-    shared-slice-read-byte-state
-    byte-state-requires
-    add-t10
-    shared-slice-read-t12
+    process-at-requires
     mul-entries
     array-set-from-entries
     add-i

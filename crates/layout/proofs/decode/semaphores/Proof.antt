@@ -1,22 +1,20 @@
+-- The entries before i are those that the bytes say. Assumes nothing.
 use Prim.Native.Nat.{_-_, _≤_}
 use native.Mathlib.Omega.{arith}
-use mathlib.Core.Path.{_∙_, _≡_, ap, refl, sym}
+use mathlib.Core.Path.{_≡_, refl}
 use lib.ListN.{length, length-set, take}
-use mir.Syntax.{w32}
-use mir.Val.{toZ}
-use mir.ValLaws.{toZ-ofZ}
 use borrow.Author.Needs.{needs}
+use Rattle.lists.specs.Numbers.{listed}
 use Rattle.tables.specs.Limits.{semaphoreLimit}
 use Rattle.tables.specs.Readers.{freeSemaphore}
-use Rattle.lists.proofs.NumberLaws.{filled-all, filled-next}
-use Rattle.layout.specs.Bytes.{fromBytes, wordAt}
+use Rattle.lists.proofs.NumberLaws.{listed-done, listed-next}
+use Rattle.layout.specs.Bytes.{semaphoreAt}
 use Rattle.layout.specs.Offsets.{size}
 use Rattle.layout.proofs.decode.semaphores.Statement.{statement}
-use Rattle.layout.proofs.Image.{semaphore-said, semaphores-long}
 use Rattle.layout.proofs.decode.semaphores.Tie as tie
 
 abbrev Inv-loop : tie.InvT-loop
-Inv-loop bytes entries₀ i₀ entries i = (i ≤ semaphoreLimit) × (length entries ≡ semaphoreLimit) × (take i entries ≡ take i (fromBytes bytes .semaphores)) × (length bytes ≡ size)
+Inv-loop bytes entries₀ i₀ entries i = (i ≤ semaphoreLimit) × (length entries ≡ semaphoreLimit) × (take i entries ≡ take i (listed 0 semaphoreLimit (semaphoreAt bytes))) × (length bytes ≡ size)
 
 abbrev μ-loop : tie.MeasureT-loop
 μ-loop bytes entries₀ i₀ entries i = semaphoreLimit - i
@@ -24,44 +22,8 @@ abbrev μ-loop : tie.MeasureT-loop
 loop-holds : tie.Need-loop-holds Inv-loop μ-loop
 loop-holds c = (search needs, search needs, refl, search needs)
 
-mul-k : tie.Need-mul-k Inv-loop μ-loop
-mul-k c = search needs
-
-add-k : tie.Need-add-k Inv-loop μ-loop
-add-k c = search needs
-
-add-t7 : tie.Need-add-t7 Inv-loop μ-loop
-add-t7 c = search needs
-
-shared-slice-read-t9 : tie.Need-shared-slice-read-t9 Inv-loop μ-loop
-shared-slice-read-t9 c = search needs
-
-shared-slice-read-word : tie.Need-shared-slice-read-word Inv-loop μ-loop
-shared-slice-read-word c = search needs
-
-add-word : tie.Need-add-word Inv-loop μ-loop
-add-word c = search needs
-
-shared-slice-read-word-2 : tie.Need-shared-slice-read-word-2 Inv-loop μ-loop
-shared-slice-read-word-2 c = search needs
-
-add-word-2 : tie.Need-add-word-2 Inv-loop μ-loop
-add-word-2 c = search needs
-
-shared-slice-read-word-3 : tie.Need-shared-slice-read-word-3 Inv-loop μ-loop
-shared-slice-read-word-3 c = search needs
-
-add-word-3 : tie.Need-add-word-3 Inv-loop μ-loop
-add-word-3 c = search needs
-
-shared-slice-read-word-4 : tie.Need-shared-slice-read-word-4 Inv-loop μ-loop
-shared-slice-read-word-4 c = search needs
-
-word-requires : tie.Need-word-requires Inv-loop μ-loop
-word-requires c κs = search needs
-
-signed-requires : tie.Need-signed-requires Inv-loop μ-loop
-signed-requires c κs = search needs
+semaphore-at-requires : tie.Need-semaphore-at-requires Inv-loop μ-loop
+semaphore-at-requires c κs = search needs
 
 mul-entries : tie.Need-mul-entries Inv-loop μ-loop
 mul-entries c = search needs
@@ -77,16 +39,16 @@ loop-less c = search needs
 
 loop-again : tie.Need-loop-again Inv-loop μ-loop
 loop-again c =
-    let i = c .before .before .before .before .before .before .before .before .loop .i in
-    let bs = c .before .before .before .before .before .before .before .before .before .before .args .bytes .now in
-    let m : length (fromBytes bs .semaphores) ≡ semaphoreLimit = semaphores-long bs in
-    let n : c .signed .result ≡ toZ w32 (wordAt bs i) = c .signed .ensures ∙ ap (toZ w32) (c .before .word .ensures) in
-    (search needs, simp length-set (c .before .before .before .before .before .before .before .before .loop .inv .1), filled-next (fromBytes bs .semaphores) (c .before .before .before .before .before .before .before .before .loop .entries) i freeSemaphore _ (c .before .before .before .before .before .before .before .before .loop .inv .2) (omega arith) (omega arith) (rw (toZ-ofZ w32 _ (record { sfits = c .signed .ok }), n) (sym (semaphore-said bs i (omega arith)))), search needs)
+    let bs = c .before .before .before .before .args .bytes .now in
+    let i = c .before .before .loop .i in
+    let inv = c .before .before .loop .inv in
+    (search needs, simp length-set (inv .1), listed-next (semaphoreAt bs) semaphoreLimit (c .before .before .loop .entries) (inv .1) i freeSemaphore _ (inv .2) (omega arith) (c .semaphore-at .ensures), search needs)
 
 returns : tie.Need-returns Inv-loop μ-loop
 returns c =
-    let k : c .before .loop .i ≡ semaphoreLimit = omega arith in
-    filled-all _ _ semaphoreLimit _ k (c .before .loop .inv .1) (semaphores-long _) (c .before .loop .inv .2)
+    let bs = c .before .before .before .args .bytes .now in
+    let inv = c .before .loop .inv in
+    listed-done (semaphoreAt bs) semaphoreLimit (c .before .loop .entries) (inv .1) (c .before .loop .i) (omega arith) (inv .2)
 
 pub semaphores-spec : {M : Type 1} → statement M
 semaphores-spec =
@@ -95,19 +57,7 @@ semaphores-spec =
     Inv-loop
     μ-loop
     loop-holds
-    mul-k
-    add-k
-    add-t7
-    shared-slice-read-t9
-    shared-slice-read-word
-    add-word
-    shared-slice-read-word-2
-    add-word-2
-    shared-slice-read-word-3
-    add-word-3
-    shared-slice-read-word-4
-    word-requires
-    signed-requires
+    semaphore-at-requires
     mul-entries
     array-set-from-entries
     add-i

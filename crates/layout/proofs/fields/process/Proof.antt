@@ -3,22 +3,11 @@ use Rattle.layout.proofs.fields.process.Statement.{statement}
 use Rattle.layout.proofs.Readers.{process-tells}
 use Rattle.layout.proofs.fields.process.Tie as tie
 
-shared-slice-read-byte-state : tie.Need-shared-slice-read-byte-state
-shared-slice-read-byte-state c = search needs
-
-byte-state-requires : tie.Need-byte-state-requires
-byte-state-requires c κs = search needs
-
-add-t7 : tie.Need-add-t7
-add-t7 c = search needs
-
-shared-slice-read-t9 : tie.Need-shared-slice-read-t9
-shared-slice-read-t9 c = search needs
+process-at-requires : tie.Need-process-at-requires
+process-at-requires c κs = search needs
 
 returns : tie.Need-returns
-returns c = λ h. rw (c .before .byte-state .ensures) (process-tells _ _ h)
+returns c = λ h. rw (c .process-at .ensures) (process-tells _ _ h)
 
 pub process-spec : {M : Type 1} → statement M
-process-spec =
-    tie.close
-    (tie.spec shared-slice-read-byte-state byte-state-requires add-t7 shared-slice-read-t9 returns)
+process-spec = tie.close (tie.spec process-at-requires returns)

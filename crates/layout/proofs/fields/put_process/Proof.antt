@@ -8,11 +8,14 @@ use Rattle.layout.proofs.fields.put_process.Tie as tie
 state-byte-requires : tie.Need-state-byte-requires
 state-byte-requires c κs = search needs
 
+add-bytes : tie.Need-add-bytes
+add-bytes c = search needs
+
 slice-write-bytes : tie.Need-slice-write-bytes
 slice-write-bytes c = search needs
 
-add-bytes : tie.Need-add-bytes
-add-bytes c = search needs
+add-bytes-2 : tie.Need-add-bytes-2
+add-bytes-2 c = search needs
 
 slice-write-bytes-2 : tie.Need-slice-write-bytes-2
 slice-write-bytes-2 c = simp length-set (omega arith)
@@ -28,8 +31,9 @@ put-process-spec =
     tie.close
     (tie.spec
     state-byte-requires
-    slice-write-bytes
     add-bytes
+    slice-write-bytes
+    add-bytes-2
     slice-write-bytes-2
     same-length
     returns)

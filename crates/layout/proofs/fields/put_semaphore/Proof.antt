@@ -16,8 +16,11 @@ same-length c = search needs
 
 returns : tie.Need-returns
 returns c =
-    let s = c .before .before .before .before .before .before .before .before .before .pre .1 in
-    semaphore-turns _ (record { used = c .before .before .before .before .before .before .before .before .before .args .used; count = c .before .before .before .before .before .before .before .before .before .args .count }) _ _ _ s (c .before .before .before .before .before .before .put-used .ensures s) (rw (toZ-ofZ w32 (c .before .before .before .before .before .before .before .before .before .args .count) (c .before .before .before .before .before .before .before .before .before .fits .count)) at (c .before .before .put-count .ensures))
+    let start = c .before .before .before .before .before .before .before .before .before in
+    let s = start .pre .1 in
+    let put = c .before .before .before .before .before .before .put-used .ensures s in
+    let counted = rw (toZ-ofZ w32 (start .args .count) (start .fits .count)) at (c .before .before .put-count .ensures) in
+    semaphore-turns _ (record { used = start .args .used; count = start .args .count }) _ _ _ s put counted
 
 pub put-semaphore-spec : {M : Type 1} → statement M
 put-semaphore-spec = tie.close (tie.spec put-used-requires put-count-requires same-length returns)

@@ -1,3 +1,4 @@
+-- Each arm gives the byte of its state; a semaphore's number is tested as `stateByte` tests it. Assumes nothing.
 use borrow.Author.Needs.{needs}
 use borrow.Author.Tests.{le-ltb, lt-ltb}
 use Rattle.tables.specs.Limits.{semaphoreLimit}

@@ -26,41 +26,20 @@ abbrev μ-loop : tie.MeasureT-loop
 loop-holds : tie.Need-loop-holds Inv-loop μ-loop
 loop-holds c = (search needs, sym (all-none _), search needs, search needs)
 
-mul-k : tie.Need-mul-k Inv-loop μ-loop
-mul-k c = search needs
-
-add-k : tie.Need-add-k Inv-loop μ-loop
-add-k c = search needs
-
 add-count-fits : tie.Need-add-count-fits Inv-loop μ-loop
 add-count-fits c = search needs
 
 shared-slice-read-count-fits : tie.Need-shared-slice-read-count-fits Inv-loop μ-loop
 shared-slice-read-count-fits c = search needs
 
-shared-slice-read-word : tie.Need-shared-slice-read-word Inv-loop μ-loop
-shared-slice-read-word c = search needs
+mul-word-at : tie.Need-mul-word-at Inv-loop μ-loop
+mul-word-at c = search needs
 
-add-word : tie.Need-add-word Inv-loop μ-loop
-add-word c = search needs
+add-word-at : tie.Need-add-word-at Inv-loop μ-loop
+add-word-at c = search needs
 
-shared-slice-read-word-2 : tie.Need-shared-slice-read-word-2 Inv-loop μ-loop
-shared-slice-read-word-2 c = search needs
-
-add-word-2 : tie.Need-add-word-2 Inv-loop μ-loop
-add-word-2 c = search needs
-
-shared-slice-read-word-3 : tie.Need-shared-slice-read-word-3 Inv-loop μ-loop
-shared-slice-read-word-3 c = search needs
-
-add-word-3 : tie.Need-add-word-3 Inv-loop μ-loop
-add-word-3 c = search needs
-
-shared-slice-read-word-4 : tie.Need-shared-slice-read-word-4 Inv-loop μ-loop
-shared-slice-read-word-4 c = search needs
-
-word-requires : tie.Need-word-requires Inv-loop μ-loop
-word-requires c κs = search needs
+word-at-requires : tie.Need-word-at-requires Inv-loop μ-loop
+word-at-requires c κs = search needs
 
 array-read-count-fits : tie.Need-array-read-count-fits Inv-loop μ-loop
 array-read-count-fits c = search needs
@@ -76,12 +55,12 @@ loop-less c = search needs
 
 loop-again : tie.Need-loop-again Inv-loop μ-loop
 loop-again c =
-    let bs = c .before .before .before .before .before .before .before .before .before .before .args .bytes .now in
-    let many = c .before .before .before .before .before .before .before .before .before .before .args .t2 in
-    let i = c .before .before .before .before .before .before .before .before .loop .i in
+    let bs = c .before .before .before .before .before .before .args .bytes .now in
+    let many = c .before .before .before .before .before .before .args .t2 in
+    let i = c .before .before .before .before .loop .i in
     let one : c .count-fits .result ≡ semaphoreFits (semaphore (fromBytes bs) i) (getD many i 0) =
-    c .count-fits .ensures ∙ ap (λ (u : ℕ). countFits (eqb (getD bs (usedAt + i) 0) 1) (toZ w32 u) (getD many i 0)) (c .before .word .ensures) ∙ sym (rw (semaphore-said bs i (omega arith))) in
-    (search needs, all-next (λ s. semaphoreFits (semaphore (fromBytes bs) s) (getD many s 0)) i _ _ (c .before .before .before .before .before .before .before .before .loop .inv .1) one, search needs, search needs)
+    c .count-fits .ensures ∙ ap (λ (u : ℕ). countFits (eqb (getD bs (usedAt + i) 0) 1) (toZ w32 u) (getD many i 0)) (c .before .word-at .ensures) ∙ sym (rw (semaphore-said bs i (omega arith))) in
+    (search needs, all-next (λ s. semaphoreFits (semaphore (fromBytes bs) s) (getD many s 0)) i _ _ (c .before .before .before .before .loop .inv .1) one, search needs, search needs)
 
 returns : tie.Need-returns Inv-loop μ-loop
 returns c =
@@ -95,18 +74,11 @@ counts-fit-spec =
     Inv-loop
     μ-loop
     loop-holds
-    mul-k
-    add-k
     add-count-fits
     shared-slice-read-count-fits
-    shared-slice-read-word
-    add-word
-    shared-slice-read-word-2
-    add-word-2
-    shared-slice-read-word-3
-    add-word-3
-    shared-slice-read-word-4
-    word-requires
+    mul-word-at
+    add-word-at
+    word-at-requires
     array-read-count-fits
     count-fits-requires
     add-i
