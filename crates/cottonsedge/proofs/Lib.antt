@@ -2,3 +2,4 @@ pub mod Standing
 pub mod Entry
 pub mod ByValue
 pub mod Sessions
+pub mod BootBytes
