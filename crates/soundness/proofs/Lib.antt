@@ -4,3 +4,4 @@ pub mod Squeezing
 pub mod FallingBytes
 pub mod LaidBytes
 pub mod Parts
+pub mod FormBytes
