@@ -16,6 +16,7 @@ pub mod random;
 pub mod report;
 pub mod shrink;
 pub mod steps;
+pub mod streams;
 pub mod tally;
 pub mod writer;
 pub mod wrongs;

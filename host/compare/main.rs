@@ -2,7 +2,7 @@
 //!
 //! The parts are `entries` (the library this program is linked with), `bench`
 //! (the command at the end) and `wrong` (the wrong kernels). `stream N` prints N
-//! calls as lines. `--scale N` makes one N-th of the calls, `--stop` ends at the
+//! calls as lines; `small N`, `crowd N` and `full N` those of one kind. `--scale N` makes one N-th of the calls, `--stop` ends at the
 //! first failure, `--lists` compares what the bytes mean and not the row.
 
 mod entries_part;

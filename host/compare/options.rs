@@ -1,6 +1,7 @@
 //! The command line.
 
 use compare::steps::View;
+use compare::streams::Kind;
 
 pub struct Options {
     pub view: View,
@@ -9,7 +10,7 @@ pub struct Options {
     pub seed: u64,
     pub scale: usize,
     pub parts: Vec<String>,
-    pub stream: Option<usize>,
+    pub stream: Option<(Kind, usize)>,
     pub bench: Vec<String>,
 }
 
@@ -32,7 +33,10 @@ pub fn read(words: Vec<String>) -> Options {
             "--lists" => options.view = View::Lists,
             "--seed" => options.seed = number(words.next()),
             "--scale" => options.scale = number(words.next()) as usize,
-            "stream" => options.stream = Some(number(words.next()) as usize),
+            "stream" => options.stream = Some((Kind::Mixed, number(words.next()) as usize)),
+            "small" => options.stream = Some((Kind::Small, number(words.next()) as usize)),
+            "crowd" => options.stream = Some((Kind::Crowd, number(words.next()) as usize)),
+            "full" => options.stream = Some((Kind::Full, number(words.next()) as usize)),
             "--" => options.bench = words.by_ref().collect(),
             _ => options.parts.push(word),
         }

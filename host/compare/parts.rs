@@ -3,11 +3,11 @@
 use crate::options::Options;
 use compare::bench;
 use compare::edges::{SESSION, SESSION_ANSWERS};
-use compare::generate::stream;
 use compare::inputs::{self, Input};
 use compare::lines;
 use compare::report::Report;
 use compare::steps::View;
+use compare::streams::of_kind;
 use compare::tally::Tally;
 use compare::wrongs::caught;
 use second::wrong::KERNELS;
@@ -19,8 +19,8 @@ pub struct Run<'a> {
 }
 
 pub fn run(options: &Options) -> bool {
-    if let Some(length) = options.stream {
-        print!("{}", String::from_utf8_lossy(&lines::of_calls(&stream(options.seed, length))));
+    if let Some((kind, length)) = options.stream {
+        print!("{}", String::from_utf8_lossy(&lines::of_calls(&of_kind(kind, options.seed, length))));
         return true;
     }
     let mut run = Run { options, report: Report::new(options.stop), tally: Tally::default() };

@@ -24,9 +24,3 @@ double median(double *times, size_t n)
     qsort(times, n, sizeof *times, rising);
     return times[n / 2];
 }
-
-double best(double *times, size_t n)
-{
-    qsort(times, n, sizeof *times, rising);
-    return times[0];
-}

@@ -1,4 +1,4 @@
-/* Time, and the middle and the best of several. */
+/* Time, and the middle of several. */
 #ifndef CLOCK_H
 #define CLOCK_H
 
@@ -6,8 +6,7 @@
 
 double now_ns(void);
 
-/* Both put the times in order. */
+/* Puts the times in order. */
 double median(double *times, size_t n);
-double best(double *times, size_t n);
 
 #endif

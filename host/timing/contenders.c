@@ -3,24 +3,11 @@
 #include "../../include/cottonsedge.h"
 #include "../rivals/linked.h"
 
-/* The rivals are compiled twice, under names that tell how. */
-#define DECLARE(LEVEL)                                                                       \
-    uint64_t inplace_call_##LEVEL(uint8_t *, size_t, uint8_t, int32_t, int32_t);             \
-    uint8_t inplace_boot_##LEVEL(uint8_t *, size_t);                                         \
-    uint8_t inplace_check_##LEVEL(const uint8_t *, size_t);                                  \
-    uint64_t linked_call_##LEVEL(Linked *, uint8_t, int32_t, int32_t);                       \
-    uint64_t linked_call_unchecked_##LEVEL(Linked *, uint8_t, int32_t, int32_t);             \
-    void linked_boot_##LEVEL(Linked *);                                                      \
-    uint8_t linked_check_##LEVEL(const Linked *);
-
-DECLARE(O2)
-DECLARE(O3)
-
 /* Each contender has its own loops, so that every call is a direct one. */
 #define LOOPS(NAME, BOOT, CALL, CHECK)                                                       \
-    static void NAME##_boot(void *t) { BOOT; }                                               \
-    static uint64_t NAME##_one(void *t, uint8_t call, int32_t a, int32_t b) { return CALL; } \
-    static uint64_t NAME##_run(void *t, const Call *calls, size_t n)                         \
+    static void boot_##NAME(void *t) { BOOT; }                                               \
+    static uint64_t one_##NAME(void *t, uint8_t call, int32_t a, int32_t b) { return CALL; } \
+    static uint64_t run_##NAME(void *t, const Call *calls, size_t n)                         \
     {                                                                                        \
         uint64_t mixed = 0;                                                                  \
         for (size_t i = 0; i < n; i++) {                                                     \
@@ -30,7 +17,7 @@ DECLARE(O3)
         }                                                                                    \
         return mixed;                                                                        \
     }                                                                                        \
-    static unsigned NAME##_check(const uint8_t *many, size_t n)                              \
+    static unsigned check_##NAME(const uint8_t *many, size_t n)                              \
     {                                                                                        \
         unsigned all = 0;                                                                    \
         for (size_t i = 0; i < n; i++) {                                                     \
@@ -40,25 +27,57 @@ DECLARE(O3)
         return all;                                                                          \
     }
 
+/* The rivals are compiled in several ways, under names that tell how. */
 #define BYTES COTTONSEDGE_LENGTH
-LOOPS(library, cottonsedge_boot(t, BYTES), cottonsedge_call(t, BYTES, call, a, b), cottonsedge_check(t, BYTES))
-LOOPS(linked_O2, linked_boot_O2(t), linked_call_O2(t, call, a, b), linked_check_O2(t))
-LOOPS(linked_O3, linked_boot_O3(t), linked_call_O3(t, call, a, b), linked_check_O3(t))
-LOOPS(inplace_O2, inplace_boot_O2(t, BYTES), inplace_call_O2(t, BYTES, call, a, b), inplace_check_O2(t, BYTES))
-LOOPS(inplace_O3, inplace_boot_O3(t, BYTES), inplace_call_O3(t, BYTES, call, a, b), inplace_check_O3(t, BYTES))
-LOOPS(unchecked_O2, linked_boot_O2(t), linked_call_unchecked_O2(t, call, a, b), linked_check_O2(t))
-LOOPS(unchecked_O3, linked_boot_O3(t), linked_call_unchecked_O3(t, call, a, b), linked_check_O3(t))
+#define OVER_BYTES(NAME)                                                                     \
+    uint64_t NAME##_call(uint8_t *, size_t, uint8_t, int32_t, int32_t);                      \
+    uint8_t NAME##_boot(uint8_t *, size_t);                                                  \
+    uint8_t NAME##_check(const uint8_t *, size_t);                                           \
+    LOOPS(NAME, NAME##_boot(t, BYTES), NAME##_call(t, BYTES, call, a, b), NAME##_check(t, BYTES))
 
-#define ENTRY(NAME, TEXT) {TEXT, NAME##_boot, NAME##_run, NAME##_one, NAME##_check}
+#define OVER_LISTS(NAME)                                                                     \
+    uint64_t NAME##_call(Linked *, uint8_t, int32_t, int32_t);                               \
+    uint64_t NAME##_call_unchecked(Linked *, uint8_t, int32_t, int32_t);                     \
+    void NAME##_boot(Linked *);                                                              \
+    uint8_t NAME##_check(const Linked *);                                                    \
+    LOOPS(NAME, NAME##_boot(t), NAME##_call(t, call, a, b), NAME##_check(t))
+
+OVER_BYTES(cottonsedge)
+OVER_LISTS(linked_gcc_O2)
+OVER_LISTS(linked_gcc_O3)
+OVER_LISTS(linked_clang_O3)
+OVER_BYTES(inplace_gcc_O2)
+OVER_BYTES(inplace_gcc_O3)
+OVER_BYTES(inplace_clang_O3)
+OVER_BYTES(sse2_gcc_O3)
+OVER_BYTES(sse2_clang_O3)
+LOOPS(unchecked, linked_gcc_O3_boot(t), linked_gcc_O3_call_unchecked(t, call, a, b), linked_gcc_O3_check(t))
+#ifdef NATIVE
+OVER_BYTES(native)
+OVER_LISTS(linked_gcc_native)
+OVER_BYTES(inplace_gcc_native)
+OVER_BYTES(inplace_clang_native)
+#endif
+
+#define ENTRY(NAME, TEXT, BESIDE) {TEXT, BESIDE, boot_##NAME, run_##NAME, one_##NAME, check_##NAME}
 
 const Contender contenders[] = {
-    ENTRY(library, "Cottonsedge"),
-    ENTRY(linked_O2, "C, linked lists, -O2"),
-    ENTRY(linked_O3, "C, linked lists, -O3"),
-    ENTRY(inplace_O2, "C, same bytes, -O2"),
-    ENTRY(inplace_O3, "C, same bytes, -O3"),
-    ENTRY(unchecked_O2, "C, linked lists, no check, -O2"),
-    ENTRY(unchecked_O3, "C, linked lists, no check, -O3"),
+    ENTRY(cottonsedge, "Cottonsedge", LIBRARY),
+    ENTRY(linked_gcc_O2, "C, linked lists, gcc -O2", LIBRARY),
+    ENTRY(linked_gcc_O3, "C, linked lists, gcc -O3", LIBRARY),
+    ENTRY(linked_clang_O3, "C, linked lists, clang -O3", LIBRARY),
+    ENTRY(inplace_gcc_O2, "C, same bytes, gcc -O2", LIBRARY),
+    ENTRY(inplace_gcc_O3, "C, same bytes, gcc -O3", LIBRARY),
+    ENTRY(inplace_clang_O3, "C, same bytes, clang -O3", LIBRARY),
+    ENTRY(sse2_gcc_O3, "C, same bytes, SSE2 by hand, gcc -O3", LIBRARY),
+    ENTRY(sse2_clang_O3, "C, same bytes, SSE2 by hand, clang -O3", LIBRARY),
+    ENTRY(unchecked, "C, linked lists, no check, gcc -O3", LIBRARY),
+#ifdef NATIVE
+    ENTRY(native, "Cottonsedge, -march=native", LIBRARY_NATIVE),
+    ENTRY(linked_gcc_native, "C, linked lists, gcc -O3 -march=native", LIBRARY_NATIVE),
+    ENTRY(inplace_gcc_native, "C, same bytes, gcc -O3 -march=native", LIBRARY_NATIVE),
+    ENTRY(inplace_clang_native, "C, same bytes, clang -O3 -march=native", LIBRARY_NATIVE),
+#endif
 };
 
 const size_t contenders_count = sizeof contenders / sizeof contenders[0];

@@ -1,4 +1,4 @@
-/* The programs timed side by side, each behind the same four functions. */
+/* The programs timed side by side, each behind the same functions. */
 #ifndef CONTENDERS_H
 #define CONTENDERS_H
 
@@ -16,6 +16,8 @@ enum { ROOM = 2048 };
 
 typedef struct {
     const char *name;
+    /* The place of the library compiled as this one is. */
+    size_t library;
     void (*boot)(void *tables);
     /* Makes the calls; tells a number that depends on every answer. */
     uint64_t (*run)(void *tables, const Call *calls, size_t n);
@@ -25,11 +27,26 @@ typedef struct {
     unsigned (*check)(const uint8_t *many, size_t n);
 } Contender;
 
-/* The first is the library. */
 extern const Contender contenders[];
 extern const size_t contenders_count;
 
-/* Their places. */
-enum { LIBRARY, LINKED_O2, LINKED_O3, INPLACE_O2, INPLACE_O3, UNCHECKED_O2, UNCHECKED_O3 };
+/* Their places: those of plain x86-64, then those of the machine at hand. */
+enum {
+    LIBRARY,
+    LINKED_GCC_O2,
+    LINKED_GCC_O3,
+    LINKED_CLANG_O3,
+    INPLACE_GCC_O2,
+    INPLACE_GCC_O3,
+    INPLACE_CLANG_O3,
+    SSE2_GCC_O3,
+    SSE2_CLANG_O3,
+    UNCHECKED_GCC_O3,
+    LIBRARY_NATIVE,
+    LINKED_GCC_NATIVE,
+    INPLACE_GCC_NATIVE,
+    INPLACE_CLANG_NATIVE,
+    CONTENDERS
+};
 
 #endif

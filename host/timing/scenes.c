@@ -1,6 +1,7 @@
 #include "scenes.h"
 
 #include "../../include/cottonsedge.h"
+#include "clock.h"
 
 /* n processes of one priority, started one by one; each runs at once. */
 static void start(const Contender *contender, void *tables, int32_t priority)
@@ -37,3 +38,27 @@ const Scene scenes[] = {
 };
 
 const size_t scenes_count = sizeof scenes / sizeof scenes[0];
+
+static double time_once(const Scene *scene, const Contender *contender, int n)
+{
+    enum { AGAIN = 500 };
+    static uint8_t tables[ROOM];
+    static Call loop[AGAIN * 2];
+    size_t length = AGAIN * scene->calls;
+
+    for (size_t i = 0; i < length; i++)
+        loop[i] = scene->round[i % scene->calls];
+    scene->set_up(contender, tables, n);
+    double start = now_ns();
+    contender->run(tables, loop, length);
+    return (now_ns() - start) / (double)length;
+}
+
+void time_scene(const Scene *scene, int n, size_t rounds, double least[CONTENDERS])
+{
+    for (size_t round = 0; round < rounds; round++)
+        for (size_t c = 0; c < contenders_count; c++) {
+            double time = time_once(scene, &contenders[c], n);
+            least[c] = round == 0 || time < least[c] ? time : least[c];
+        }
+}

@@ -15,4 +15,7 @@ typedef struct {
 extern const Scene scenes[];
 extern const size_t scenes_count;
 
+/* The best time of a call with n processes, the contenders taking turns. */
+void time_scene(const Scene *scene, int n, size_t rounds, double least[CONTENDERS]);
+
 #endif

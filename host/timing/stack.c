@@ -11,27 +11,18 @@ static ucontext_t outside, inside;
 
 /* What the painted stack runs. */
 static const Contender *runner;
-static void *lent;
+static unsigned char lent[ROOM];
 static Call made;
 
-static void painted(void)
-{
-    runner->one(lent, made.call, made.a, made.b);
-}
+static void run_nothing(void) {}
+static void run_boot(void) { runner->boot(lent); }
+static void run_call(void) { runner->one(lent, made.call, made.a, made.b); }
+static void run_check(void) { runner->check(lent, 1); }
 
-static uint64_t nothing(void *tables, uint8_t call, int32_t a, int32_t b)
-{
-    (void)tables;
-    return call + (uint64_t)a + (uint64_t)b;
-}
-
-static size_t used_by_one(const Contender *contender, void *tables, Call call)
+static size_t used_by(void (*painted)(void))
 {
     size_t untouched = 0;
 
-    runner = contender;
-    lent = tables;
-    made = call;
     memset(stack, PAINT, sizeof stack);
     getcontext(&inside);
     inside.uc_stack.ss_sp = stack;
@@ -44,17 +35,25 @@ static size_t used_by_one(const Contender *contender, void *tables, Call call)
     return sizeof stack - untouched;
 }
 
-size_t stack_used(const Contender *contender, const Call *calls, size_t n)
+/* Less what the switch itself and an empty function use. */
+static size_t grown(size_t most, void (*painted)(void))
 {
-    static unsigned char tables[ROOM];
-    static const Contender empty = {"nothing", NULL, NULL, nothing, NULL};
-    size_t most = 0;
+    size_t used = used_by(painted), empty = used_by(run_nothing);
+    size_t own = used > empty ? used - empty : 0;
 
-    contender->boot(tables);
+    return own > most ? own : most;
+}
+
+Stack stack_used(const Contender *contender, const Call *calls, size_t n)
+{
+    Stack most = {0, 0, 0};
+
+    runner = contender;
+    most.boot = grown(0, run_boot);
     for (size_t i = 0; i < n; i++) {
-        size_t used = used_by_one(contender, tables, calls[i]);
-        most = used > most ? used : most;
+        made = calls[i];
+        most.call = grown(most.call, run_call);
+        most.check = grown(most.check, run_check);
     }
-    /* less what the switch itself and an empty function use */
-    return most - used_by_one(&empty, tables, calls[0]);
+    return most;
 }

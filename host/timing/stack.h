@@ -1,10 +1,16 @@
-/* Bytes of stack that one call uses, by painting a stack and looking at the paint. */
+/* Bytes of stack that a function uses, by painting a stack and looking at the paint. */
 #ifndef STACK_H
 #define STACK_H
 
 #include "contenders.h"
 
-/* The most that any of the calls used, from boot on. */
-size_t stack_used(const Contender *contender, const Call *calls, size_t n);
+typedef struct {
+    size_t boot;
+    size_t call;
+    size_t check;
+} Stack;
+
+/* The most that each of the three used, over the calls from boot on. */
+Stack stack_used(const Contender *contender, const Call *calls, size_t n);
 
 #endif

@@ -10,3 +10,4 @@ pub mod Asked
 pub mod Sessions
 pub mod ShutOut
 pub mod Edges
+pub mod BootBytes

@@ -9,7 +9,7 @@ use lib.Dec.{eqb}
 use lib.ListN.{List·getD-eq-default, getD, length, length-map}
 use lib.Seq.{ext-getD}
 use mir.Syntax.{w32}
-use mir.Val.{SFits, ofZ, toZ}
+use mir.Val.{SFits, ofZ}
 use mir.ValLaws.{ofZ-toZ, toZ-fits}
 use borrow.Author.Tests.{eq-eqb, eqb-true, lt-ltb, ltb-true}
 use Rattle.lists.specs.Numbers.{all, listed}
@@ -22,7 +22,7 @@ use Rattle.tables.specs.declared.State.{State}
 use Rattle.tables.specs.declared.State.the-variants.{Current, Free, Ready, Suspended, Waiting}
 use Rattle.lists.proofs.Bools.{and-in, below?, both, either}
 use Rattle.lists.proofs.NumberLaws.{all-at, all-true, listed-all, listed-at, listed-length}
-use Rattle.layout.specs.Bytes.{byteOf, byteState, flagPlain, fromBytes, placeAt, placeNamed, processAt, semaphoreAt, stateByte, stateNamed, toBytes, usedByte, wellFormed, wordAt, wordByte}
+use Rattle.layout.specs.Bytes.{byteOf, byteState, countAt, flagPlain, fromBytes, placeAt, placeNamed, processAt, semaphoreAt, stateByte, stateNamed, toBytes, usedByte, wellFormed, wordAt, wordByte}
 use Rattle.layout.specs.Offsets.{countsAt, nextProcessAt, nextSemaphoreAt, orderAt, prioritiesAt, size, statesAt, usedAt}
 use Rattle.layout.specs.Stands.{Held, Named, Stands}
 use Rattle.layout.proofs.Words.{word-said, word-small}
@@ -159,7 +159,7 @@ module _ (bs : List ℕ) (byte : (i : ℕ) → getD bs i 0 < 256) (wf : wellForm
   state : (p : ℕ) → p < processLimit → stateOf said p ≡ byteState (getD bs (statesAt + p) 0)
   state p h = ap (λ (x : Process). x .state) (process-said bs p h)
 
-  count : (s : ℕ) → s < semaphoreLimit → countOf said s ≡ toZ w32 (wordAt bs (countsAt + s * 4))
+  count : (s : ℕ) → s < semaphoreLimit → countOf said s ≡ countAt bs s
   count s h = ap (λ (x : Semaphore). x .count) (semaphore-said bs s h)
 
   word-kept : (s : ℕ) → s < semaphoreLimit → wordAt bs (countsAt + s * 4) ≡ ofZ w32 (countOf said s)

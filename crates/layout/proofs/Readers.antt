@@ -18,7 +18,7 @@ use Rattle.tables.specs.declared.Tables.{Tables}
 use Rattle.tables.specs.Limits.{processLimit, semaphoreLimit}
 use Rattle.tables.specs.Readers.{countOf, isUsed, priorityOf, process, semaphore, stateOf}
 use Rattle.layout.specs.Offsets.{countsAt, nextProcessAt, nextSemaphoreAt, orderAt, prioritiesAt, statesAt, usedAt}
-use Rattle.layout.specs.Bytes.{byteState, processAt, semaphoreAt, stateByte, usedByte, wordAt}
+use Rattle.layout.specs.Bytes.{byteState, countAt, processAt, semaphoreAt, stateByte, usedByte}
 use Rattle.layout.specs.Stands.{Named, Stands, Tells}
 use Rattle.layout.proofs.Words.{word-read}
 use Rattle.layout.proofs.Regions.{count-byte, place-byte, priority-byte, state-byte, used-byte}
@@ -63,7 +63,7 @@ module _ (t : Tables) (bs : List ℕ) (st : Stands t bs) where
   used-read : (s : ℕ) → s < semaphoreLimit → eqb (getD bs (usedAt + s) 0) 1 ≡ isUsed t s
   used-read s h = ap (λ (z : ℕ). eqb z 1) (used-stands s h) ∙ used-there (isUsed t s)
 
-  count-read : (s : ℕ) → s < semaphoreLimit → toZ w32 (wordAt bs (countsAt + s * 4)) ≡ countOf t s
+  count-read : (s : ℕ) → s < semaphoreLimit → countAt bs s ≡ countOf t s
   count-read s h =
       let k : ℕ = countsAt + s * 4 in
       let c : ℤ = countOf t s in
@@ -87,7 +87,7 @@ module _ (bs : List ℕ) where
   unfolding Tells
   used-tells s h t st = used-read t bs st s h
 
-  pub count-tells : (s : ℕ) (r : ℤ) → s < semaphoreLimit → r ≡ toZ w32 (wordAt bs (countsAt + s * 4)) → Tells (λ t. countOf t s) bs r
+  pub count-tells : (s : ℕ) (r : ℤ) → s < semaphoreLimit → r ≡ countAt bs s → Tells (λ t. countOf t s) bs r
   unfolding Tells
   count-tells s r h e t st = e ∙ count-read t bs st s h
 

@@ -4,6 +4,7 @@ use mathlib.Core.Bool.{Bool, true, false, _&&_}
 use mathlib.Core.List.{List}
 use lib.ListN.{getD, length}
 use lib.Dec.{eqb, ltb}
+use lib.IntN.{ℤ}
 use mir.Syntax.{w32}
 use mir.Val.{ofZ, toZ}
 use Rattle.lists.specs.Lists.{if_then_else_}
@@ -82,8 +83,11 @@ processAt bs p = record { state = byteState (getD bs (statesAt + p) 0); priority
 abbrev pub wordAt : List ℕ → ℕ → ℕ
 wordAt bs k = of4 (getD bs k 0) (getD bs (k + 1) 0) (getD bs (k + 2) 0) (getD bs (k + 3) 0)
 
+abbrev pub countAt : List ℕ → ℕ → ℤ
+countAt bs s = toZ w32 (wordAt bs (countsAt + s * 4))
+
 abbrev pub semaphoreAt : List ℕ → ℕ → Semaphore
-semaphoreAt bs s = record { used = eqb (getD bs (usedAt + s) 0) 1; count = toZ w32 (wordAt bs (countsAt + s * 4)) }
+semaphoreAt bs s = record { used = eqb (getD bs (usedAt + s) 0) 1; count = countAt bs s }
 
 abbrev pub placeAt : List ℕ → ℕ → ℕ
 placeAt bs i = getD bs (orderAt + i) 0

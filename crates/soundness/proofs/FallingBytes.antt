@@ -1,5 +1,5 @@
 -- A turn of the walk along the ready list. Assumes nothing.
-use Prim.Native.Nat.{_+_, _<_, _≤_, ℕ}
+use Prim.Native.Nat.{_+_, _-_, _<_, _≤_, ℕ}
 use native.Mathlib.Omega.{arith}
 use mathlib.Core.Bool.{Bool, false, true}
 use mathlib.Core.List.{List, _∷_}
@@ -14,7 +14,9 @@ use Rattle.tables.specs.Limits.{processLimit}
 use Rattle.tables.specs.Readers.{line, priorityOf, readyList, stateOf}
 use Rattle.tables.specs.States.{isReady}
 use Rattle.layout.proofs.Image.{order-long, place-said}
+use Rattle.lists.proofs.Bools.{either}
 use Rattle.lists.proofs.Walks.{falls-none, falls-on, falls-stop, filter-done, filter-in, filter-over}
+use Rattle.soundness.specs.Keys.{keyOf, latestOf}
 use Rattle.soundness.proofs.StateBytes.{priority-said, ready-byte, state-said}
 
 module _ (bs : List ℕ) (named : (i : ℕ) → i < processLimit → getD bs (orderAt + i) 0 < processLimit) where
@@ -22,7 +24,7 @@ module _ (bs : List ℕ) (named : (i : ℕ) → i < processLimit → getD bs (or
   abbrev pub left : ℕ → ℕ → Bool
   left last i = falls (priorityOf (fromBytes bs)) last (filter (λ p. isReady (stateOf (fromBytes bs) p)) (drop i (fromBytes bs .order)))
 
-  module _ (last i p : ℕ) (h : i < processLimit) (at : getD bs (orderAt + i) 0 ≡ p) where
+  module _ (i p : ℕ) (h : i < processLimit) (at : getD bs (orderAt + i) 0 ≡ p) where
     below : p < processLimit
     below = subst (λ (q : ℕ). q < processLimit) at (named i h)
 
@@ -38,17 +40,39 @@ module _ (bs : List ℕ) (named : (i : ℕ) → i < processLimit → getD bs (or
     priority : priorityOf (fromBytes bs) (getD (fromBytes bs .order) i 0) ≡ getD bs (prioritiesAt + p) 0
     priority = rw here (priority-said bs p below)
 
-    met : getD bs p 0 ≡ 2 → left last i ≡ falls (priorityOf (fromBytes bs)) last (getD (fromBytes bs .order) i 0 ∷ filter (λ p. isReady (stateOf (fromBytes bs) p)) (drop (i + 1) (fromBytes bs .order)))
-    met e = ap (falls (priorityOf (fromBytes bs)) last) (filter-in (λ p. isReady (stateOf (fromBytes bs) p)) (fromBytes bs .order) i long (test ∙ eq-eqb (getD bs p 0) 2 e))
+    met : (last : ℕ) → getD bs p 0 ≡ 2 → left last i ≡ falls (priorityOf (fromBytes bs)) last (getD (fromBytes bs .order) i 0 ∷ filter (λ p. isReady (stateOf (fromBytes bs) p)) (drop (i + 1) (fromBytes bs .order)))
+    met last e = ap (falls (priorityOf (fromBytes bs)) last) (filter-in (λ p. isReady (stateOf (fromBytes bs) p)) (fromBytes bs .order) i long (test ∙ eq-eqb (getD bs p 0) 2 e))
 
-    pub left-stop : getD bs p 0 ≡ 2 → last < getD bs (prioritiesAt + p) 0 → left last i ≡ false
-    left-stop e r = met e ∙ falls-stop (priorityOf (fromBytes bs)) last (getD (fromBytes bs .order) i 0) _ (rw priority r)
+    left-stop : (last : ℕ) → getD bs p 0 ≡ 2 → last < getD bs (prioritiesAt + p) 0 → left last i ≡ false
+    left-stop last e r = met last e ∙ falls-stop (priorityOf (fromBytes bs)) last (getD (fromBytes bs .order) i 0) _ (rw priority r)
 
-    pub left-on : getD bs p 0 ≡ 2 → getD bs (prioritiesAt + p) 0 ≤ last → left last i ≡ left (getD bs (prioritiesAt + p) 0) (i + 1)
-    left-on e r = met e ∙ falls-on (priorityOf (fromBytes bs)) last (getD (fromBytes bs .order) i 0) _ (rw priority r) ∙ ap (λ (n : ℕ). left n (i + 1)) priority
+    left-on : (last : ℕ) → getD bs p 0 ≡ 2 → getD bs (prioritiesAt + p) 0 ≤ last → left last i ≡ left (getD bs (prioritiesAt + p) 0) (i + 1)
+    left-on last e r = met last e ∙ falls-on (priorityOf (fromBytes bs)) last (getD (fromBytes bs .order) i 0) _ (rw priority r) ∙ ap (λ (n : ℕ). left n (i + 1)) priority
 
-    pub left-over : (getD bs p 0 ≡ 2 → ⊥) → left last i ≡ left last (i + 1)
-    left-over e = ap (falls (priorityOf (fromBytes bs)) last) (filter-over (λ p. isReady (stateOf (fromBytes bs) p)) (fromBytes bs .order) i long (test ∙ ne-eqb (getD bs p 0) 2 e))
+    left-over : (last : ℕ) → (getD bs p 0 ≡ 2 → ⊥) → left last i ≡ left last (i + 1)
+    left-over last e = ap (falls (priorityOf (fromBytes bs)) last) (filter-over (λ p. isReady (stateOf (fromBytes bs) p)) (fromBytes bs .order) i long (test ∙ ne-eqb (getD bs p 0) 2 e))
+
+    module _ (last v : ℕ) (is : v ≡ keyOf bs p) (some : 0 < last) where
+      ready-key : getD bs p 0 ≡ 2 → v ≡ getD bs (prioritiesAt + p) 0 + 1
+      ready-key e = rw (eq-eqb (getD bs p 0) 2 e) at is
+
+      no-key : (getD bs p 0 ≡ 2 → ⊥) → v ≡ 0
+      no-key d = rw (ne-eqb (getD bs p 0) 2 d) at is
+
+      pub key-stop : last < v → left (last - 1) i ≡ false
+      key-stop r =
+          either (getD bs p 0) 2
+          (λ e. let k = ready-key e in left-stop (last - 1) e (omega arith))
+          (λ d. let k = no-key d in absurd (omega arith))
+
+      pub key-on : v ≤ last → left (last - 1) i ≡ left (latestOf last v - 1) (i + 1)
+      key-on r =
+          either (getD bs p 0) 2
+          (λ e. let k = ready-key e in let q : v - 1 ≡ getD bs (prioritiesAt + p) 0 = omega arith in rw (ne-eqb v 0 (omega arith), q) (left-on (last - 1) e (omega arith)))
+          (λ d. rw (eq-eqb v 0 (no-key d)) (left-over (last - 1) d))
+
+      pub key-some : 0 < latestOf last v
+      key-some = either v 0 (λ e. rw (eq-eqb v 0 e) some) (λ d. rw (ne-eqb v 0 d) (omega arith))
 
   pub left-none : (last i : ℕ) → processLimit ≤ i → left last i ≡ true
   left-none last i h = ap (falls (priorityOf (fromBytes bs)) last) (filter-done (λ p. isReady (stateOf (fromBytes bs) p)) (fromBytes bs .order) i (rw (order-long bs) h)) ∙ falls-none (priorityOf (fromBytes bs)) last

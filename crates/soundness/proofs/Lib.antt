@@ -1,6 +1,7 @@
 pub mod Tally
 pub mod StateBytes
-pub mod CountWords
+pub mod Squeezing
 pub mod FallingBytes
 pub mod LaidBytes
 pub mod Parts
+pub mod FormBytes

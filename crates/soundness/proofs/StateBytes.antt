@@ -53,18 +53,22 @@ current-byte b = by-byte isCurrent 1 b refl refl refl refl (λ h. sym (ne-eqb b 
 pub ready-byte : (b : ℕ) → isReady (byteState b) ≡ eqb b 2
 ready-byte b = by-byte isReady 2 b refl refl refl refl (λ h. sym (ne-eqb b 2 (omega arith)))
 
--- the semaphore that a byte waits on
-pub waits-byte : (b s : ℕ) → s < semaphoreLimit → waitsOn s (byteState b) ≡ eqb s (if ltb b 4 then 255 else (b - 4))
-waits-byte b s h =
+pub eqb-swap : (m n : ℕ) → eqb m n ≡ eqb n m
+eqb-swap m n = either m n (λ e. rw e refl) (λ d. ne-eqb m n d ∙ sym (ne-eqb n m (λ z. d (sym z))))
+
+-- the semaphore that a byte waits on, or a number past them all
+pub waits-byte : (b s spare : ℕ) → s < semaphoreLimit → semaphoreLimit ≤ spare → waitsOn s (byteState b) ≡ eqb s (if ltb b 4 then spare else (b - 4))
+waits-byte b s spare h past =
     below? b 4
-    (λ l. rw (lt-ltb b 4 l) (low l ∙ sym (ne-eqb s 255 (omega arith))))
-    (λ l. rw (le-ltb b 4 l, byte-waiting b l) (same (b - 4) s))
+    (λ l. rw (lt-ltb b 4 l) (low l ∙ sym (ne-eqb s spare (omega arith))))
+    (λ l. rw (le-ltb b 4 l, byte-waiting b l) (eqb-swap (b - 4) s))
   where
     low : b < 4 → waitsOn s (byteState b) ≡ false
     low l = either b 0 (λ e. rw e refl) (λ n0. either b 1 (λ e. rw e refl) (λ n1. either b 2 (λ e. rw e refl) (λ n2. let e : b ≡ 3 = omega arith in rw e refl)))
 
-    same : (m n : ℕ) → eqb m n ≡ eqb n m
-    same m n = either m n (λ e. rw e refl) (λ d. ne-eqb m n d ∙ sym (ne-eqb n m (λ z. d (sym z))))
+-- the same of a process, and the cell that it is counted at
+pub waits-cell : (bs : List ℕ) (p i k : ℕ) → p < processLimit → k ≡ (if ltb (getD bs p 0) 4 then semaphoreLimit + i else (getD bs p 0 - 4)) → (s : ℕ) → s < semaphoreLimit → waitsOn s (stateOf (fromBytes bs) p) ≡ eqb s k
+waits-cell bs p i k hp e s h = ap (waitsOn s) (state-said bs p hp) ∙ waits-byte (getD bs p 0) s (semaphoreLimit + i) h (omega arith) ∙ ap (eqb s) (sym e)
 
 -- well formed bytes name semaphores only
 pub names-all : (bs : List ℕ) → wellFormed bs ≡ true → all processLimit (λ p. namesSemaphore (stateOf (fromBytes bs) p)) ≡ true

@@ -1,3 +1,5 @@
 pub mod Good
 pub mod Tallies
 pub mod Laid
+pub mod Squeeze
+pub mod Keys

@@ -1,12 +1,16 @@
 -- What the loops of the check count and add up.
-use Prim.Native.Nat.{ℕ}
+use Prim.Native.Nat.{ℕ, _+_, _/_, _<_, _≤_}
+use mathlib.Core.Path.{_≡_}
 use mathlib.Core.Bool.{Bool}
+use mathlib.Core.List.{List}
+use lib.ListN.{getD, length}
 use Rattle.lists.specs.Lists.{if_then_else_}
 use Rattle.lists.specs.Numbers.{total}
 use Rattle.tables.specs.declared.State.{State}
 use Rattle.tables.specs.declared.Tables.{Tables}
-use Rattle.tables.specs.Limits.{processLimit}
+use Rattle.tables.specs.Limits.{processLimit, semaphoreLimit}
 use Rattle.tables.specs.Readers.{stateOf}
+use Rattle.tables.specs.States.{waitsOn}
 
 -- w over the numbers below n of the processes whose state passes the test
 abbrev pub tally : Tables → (State → Bool) → (ℕ → ℕ) → ℕ → ℕ
@@ -19,3 +23,17 @@ manyOf t test = tally t test (λ p. 1) processLimit
 -- the sum of their numbers
 abbrev pub sumOf : Tables → (State → Bool) → ℕ
 sumOf t test = tally t test (λ p. p) processLimit
+
+-- processes that a tally is of
+abbrev pub halfLimit : ℕ
+halfLimit = processLimit / 2
+
+-- a cell for each semaphore, and a spare one for each process of the tally
+abbrev pub cellLimit : ℕ
+cellLimit = semaphoreLimit + halfLimit
+
+-- the cells after n processes, from one on: whoever waits is counted at the semaphore, and nobody twice
+pub record Tallied (t : Tables) (from n : ℕ) (cells : List ℕ) : Type 0 where
+  pub long : length cells ≡ cellLimit
+  pub few : (k : ℕ) → getD cells k 0 ≤ n
+  pub said : (s : ℕ) → s < semaphoreLimit → getD cells s 0 ≡ total n (λ p. if waitsOn s (stateOf t (from + p)) then 1 else 0)

@@ -1,71 +1,72 @@
 // Whether each semaphore's count goes with the number of those that wait on it.
-use layout::offsets::COUNTS;
+use crate::squeeze::BLOCK;
+use crate::squeeze::smalls;
+use crate::waiters::CELLS;
 use layout::offsets::USED;
-use layout::state::WAITING;
-use layout::word::word_at;
 use tables::Tables;
 ghost use mathlib.Core.Path.{_≡_};
-ghost use Prim.Native.Nat.{ℕ, _<_, _-_};
-ghost use lib.Dec.{eqb, ltb};
+ghost use Prim.Native.Nat.{ℕ, _+_, _<_, _≤_};
+ghost use lib.Dec.{eqb};
 ghost use lib.ListN.{length, getD};
-ghost use mir.Syntax.{w32};
-ghost use mir.Val.{toZ};
-ghost use Rattle.lists.specs.Lists.{if_then_else_};
+ghost use lib.IntN.{ℤ};
 ghost use Rattle.lists.specs.Numbers.{all};
 ghost use Rattle.tables.specs.Limits.{semaphoreLimit};
-ghost use Rattle.tables.specs.States.{waitsOn};
 ghost use Rattle.tables.specs.Readers.{semaphore};
 ghost use Rattle.tables.specs.Test.{countFits, semaphoreFits};
 ghost use Rattle.layout.specs.Offsets.{size};
 ghost use Rattle.layout.specs.Bytes.{fromBytes};
-ghost use Rattle.soundness.specs.Tallies.{manyOf};
+ghost use Rattle.soundness.specs.Squeeze.{Squeezed, blockLimit, claimed, squeezed};
+ghost use Rattle.soundness.specs.Tallies.{halfLimit};
 
-// The semaphore that a state byte waits on; 255 of one that waits on none.
-fn awaited(state: u8) -> usize
-    ensures { λ r. ⌜ r ≡ (if ltb state 4 then 255 else (state - 4)) ⌝ }
+// A count of 0, squeezed.
+const ZERO: u8 = 128;
+
+// Where the second block begins, to end with the last semaphore.
+const SECOND: usize = Tables::SEMAPHORES - BLOCK;
+
+// How many a squeezed count says are waiting.
+fn claim(x: u8) -> u8
+    ensures { λ r. ⌜ r ≡ claimed x ⌝ }
 {
-    if state < WAITING {
-        return 255;
+    if x < ZERO {
+        return ZERO - x;
     }
-    (state - WAITING) as usize
+    0
 }
 
-// How many wait on each semaphore.
-pub fn waiters(bytes: &[u8]) -> [u8; Tables::SEMAPHORES]
-    requires { ⌜ length (now bytes) ≡ size ⌝ }
-    ensures { λ r. ⌜ ((s : ℕ) → s < semaphoreLimit → getD r s 0 ≡ manyOf (fromBytes (now (bytes .entry))) (waitsOn s)) ⌝ }
+// So few wait that a count squeezed to -128 is known to be wrong.
+fn count_fits(used: u8, x: u8, many: u8) -> bool
+    requires { ⌜ many < 128 ⌝ }
+    ensures { λ r. ⌜ ((z : ℤ) → x ≡ squeezed z → r ≡ countFits (eqb used 1) z many) ⌝ }
 {
-    let mut many = [0u8; Tables::SEMAPHORES];
-    for i in 0..Tables::PROCESSES {
-        let s = awaited(bytes[i]);
-        if s < Tables::SEMAPHORES {
-            many[s] = many[s] + 1;
-        }
-    }
-    many
+    (claim(x) == many) & ((used == 1) | (x == ZERO))
 }
 
-// The count and those that wait add up to 0, but for a used semaphore that nobody waits on. As one sum, so that a count is read as one word.
-fn count_fits(used: u8, count: u32, many: u8) -> bool
-    ensures { λ r. ⌜ r ≡ countFits (eqb used 1) (toZ w32 count) many ⌝ }
-{
-    let sum = std::num::wrapping_add_u32(count, many as u32);
-    if used == 1 {
-        if many == 0 {
-            return sum < 2147483648;
-        }
-        return sum == 0;
-    }
-    (sum == 0) & (many == 0)
-}
-
-pub fn counts_fit(bytes: &[u8], many: [u8; Tables::SEMAPHORES]) -> bool
-    requires { ⌜ length (now bytes) ≡ size ⌝ }
-    ensures { λ r. ⌜ r ≡ all semaphoreLimit (λ s. semaphoreFits (semaphore (fromBytes (now (bytes .entry))) s) (getD many s 0)) ⌝ }
+// The semaphores of a block, from `from` on.
+fn block_fits(
+    bytes: &[u8],
+    x: &[u8; BLOCK],
+    many: &[u8; CELLS],
+    more: &[u8; CELLS],
+    from: usize,
+) -> bool
+    requires { ⌜ (length (now bytes) ≡ size) × (from + blockLimit ≤ semaphoreLimit) × Squeezed (now bytes) from blockLimit (now x) × ((s : ℕ) → getD (now many) s 0 ≤ halfLimit) × ((s : ℕ) → getD (now more) s 0 ≤ halfLimit) ⌝ }
+    ensures { λ r. ⌜ r ≡ all blockLimit (λ i. semaphoreFits (semaphore (fromBytes (now (bytes .entry))) (from + i)) (getD (now (many .entry)) (from + i) 0 + getD (now (more .entry)) (from + i) 0)) ⌝ }
 {
     let mut ok = true;
-    for i in 0..Tables::SEMAPHORES {
-        ok = ok & count_fits(bytes[USED + i], word_at(bytes, COUNTS + i * 4), many[i]);
+    for i in 0..BLOCK {
+        let s = from + i;
+        ok = ok & count_fits(bytes[USED + s], x[i], many[s] + more[s]);
     }
     ok
+}
+
+// Two blocks that overlap leave no tail to be done one at a time.
+pub fn counts_fit(bytes: &[u8], many: &[u8; CELLS], more: &[u8; CELLS]) -> bool
+    requires { ⌜ (length (now bytes) ≡ size) × ((s : ℕ) → getD (now many) s 0 ≤ halfLimit) × ((s : ℕ) → getD (now more) s 0 ≤ halfLimit) ⌝ }
+    ensures { λ r. ⌜ r ≡ all semaphoreLimit (λ s. semaphoreFits (semaphore (fromBytes (now (bytes .entry))) s) (getD (now (many .entry)) s 0 + getD (now (more .entry)) s 0)) ⌝ }
+{
+    let x = smalls(bytes, 0);
+    let y = smalls(bytes, SECOND);
+    block_fits(bytes, &x, many, more, 0) & block_fits(bytes, &y, many, more, SECOND)
 }

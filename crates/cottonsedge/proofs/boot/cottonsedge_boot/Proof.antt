@@ -1,8 +1,11 @@
-use mathlib.Core.Path.{_∙_, ap, sym}
+use native.Mathlib.Omega.{arith}
+use mathlib.Core.Path.{_∙_, _≡_, refl, sym}
+use lib.ListN.{length, length-set}
 use borrow.Author.Needs.{needs}
 use borrow.Author.Tests.{eq-eqb, ne-eqb}
-use Rattle.layout.specs.Bytes.{toBytes}
-use Rattle.layout.specs.Offsets.{size}
+use Rattle.tables.specs.Boot.{boot}
+use Rattle.layout.specs.Offsets.{nextProcessAt, nextSemaphoreAt, size}
+use Rattle.layout.proofs.BegunLaws.{begun-all, begun-next}
 use Rattle.cottonsedge.specs.Entries.{bootAnswer, booted}
 use Rattle.cottonsedge.proofs.boot.cottonsedge_boot.Statement.{statement}
 use Rattle.cottonsedge.proofs.boot.cottonsedge_boot.Tie as tie
@@ -13,21 +16,36 @@ returns c =
     let e = ne-eqb _ size (c .if1 .taken) in
     (sym (rw e), sym (rw e))
 
-boot-requires : tie.Need-boot-requires
-boot-requires c κs = search needs
+put-free-requires : tie.Need-put-free-requires
+put-free-requires c κs = search needs
 
-encode-requires : tie.Need-encode-requires
-encode-requires c κs = search needs
+put-row-requires : tie.Need-put-row-requires
+put-row-requires c κs = search needs
+
+slice-write-tables : tie.Need-slice-write-tables
+slice-write-tables c = search needs
+
+slice-write-tables-2 : tie.Need-slice-write-tables-2
+slice-write-tables-2 c = let l : length (c .before .before .put-row .last .0) ≡ size = c .before .before .put-row .ensures .long in simp length-set (omega arith)
 
 same-length : tie.Need-same-length
-same-length c = search needs
+same-length c = let l : length (c .before .before .put-row .last .0) ≡ size = c .before .before .put-row .ensures .long in simp length-set (l ∙ sym (c .before .before .before .before .before .before .before .before .if1 .left))
 
 returns-2 : tie.Need-returns-2
-unfolding bootAnswer booted
+unfolding boot bootAnswer booted
 returns-2 c =
-    let e = eq-eqb _ size (c .before .before .before .before .before .if1 .left) in
-    (sym (rw e), c .before .before .encode .ensures .0 ∙ ap toBytes (c .before .before .before .boot .ensures) ∙ sym (rw e))
+    let e = eq-eqb _ size (c .before .before .before .before .before .before .before .before .if1 .left) in
+    let whole = begun-all boot _ (begun-next boot nextProcessAt _ 1 (begun-next boot nextSemaphoreAt _ 0 (c .before .before .put-row .ensures) (omega arith) refl) (omega arith) refl) in
+    (sym (rw e), whole ∙ sym (rw e))
 
 pub cottonsedge-boot-spec : {M : Type 1} → statement M
 cottonsedge-boot-spec =
-    tie.close (tie.spec returns boot-requires encode-requires same-length returns-2)
+    tie.close
+    (tie.spec
+    returns
+    put-free-requires
+    put-row-requires
+    slice-write-tables
+    slice-write-tables-2
+    same-length
+    returns-2)

@@ -4,7 +4,7 @@ use borrow.Author.Needs.{needs}
 use Rattle.layout.proofs.Image.{formed-long, formed-place}
 use Rattle.lists.proofs.Bools.{not-false, not-true}
 use Rattle.soundness.proofs.check.runs.Statement.{statement}
-use Rattle.soundness.proofs.Parts.{counts-left, current-small, not-falling, not-one}
+use Rattle.soundness.proofs.Parts.{counts-left, current-small, not-falling, not-one, priority-small}
 use Rattle.soundness.proofs.check.runs.Tie as tie
 
 currents-requires : tie.Need-currents-requires
@@ -19,29 +19,38 @@ current-requires c κs = formed-long (c .before .before .before .args .bytes .no
 cast-c : tie.Need-cast-c
 cast-c c = search needs
 
+keys-requires : tie.Need-keys-requires
+keys-requires c κs = (formed-long (c .before .before .before .before .args .bytes .now) (c .before .before .before .before .pre .0), priority-small (c .before .before .before .before .args .bytes .now) (c .before .before .before .before .pre .0) (c .before .before .before .before .pre .1))
+
 add-ready-falls : tie.Need-add-ready-falls
 add-ready-falls c = search needs
 
 shared-slice-read-ready-falls : tie.Need-shared-slice-read-ready-falls
 shared-slice-read-ready-falls c =
-    let bs = c .before .before .before .before .before .args .bytes .now in
-    let s = current-small bs (c .before .before .before .before .before .pre .0) (c .before .before .before .before .before .pre .1) _ (c .before .before .before .currents .ensures) (c .before .before .if1 .left) _ (c .before .current .ensures) in
-    omega (arith, formed-long bs (c .before .before .before .before .before .pre .0))
+    let bs = c .before .before .before .before .before .before .before .args .bytes .now in
+    let s = current-small bs (c .before .before .before .before .before .before .before .pre .0) (c .before .before .before .before .before .before .before .pre .1) _ (c .before .before .before .before .before .currents .ensures) (c .before .before .before .before .if1 .left) _ (c .before .before .before .current .ensures) in
+    omega (arith, formed-long bs (c .before .before .before .before .before .before .before .pre .0))
+
+add-ready-falls-2 : tie.Need-add-ready-falls-2
+add-ready-falls-2 c =
+    let bs = c .before .before .before .before .before .before .before .args .bytes .now in
+    let s = current-small bs (c .before .before .before .before .before .before .before .pre .0) (c .before .before .before .before .before .before .before .pre .1) _ (c .before .before .before .before .before .currents .ensures) (c .before .before .before .before .if1 .left) _ (c .before .before .before .current .ensures) in
+    let l = priority-small bs (c .before .before .before .before .before .before .before .pre .0) (c .before .before .before .before .before .before .before .pre .1) _ s in
+    record { fits = omega arith }
 
 ready-falls-requires : tie.Need-ready-falls-requires
-ready-falls-requires c κs = (formed-long (c .before .before .before .before .before .args .bytes .now) (c .before .before .before .before .before .pre .0), formed-place (c .before .before .before .before .before .args .bytes .now) (c .before .before .before .before .before .pre .0))
+ready-falls-requires c κs =
+    let bs = c .before .before .before .before .before .before .before .args .bytes .now in
+    (formed-long bs (c .before .before .before .before .before .before .before .pre .0), formed-place bs (c .before .before .before .before .before .before .before .pre .0), c .before .before .keys .ensures, omega arith)
 
 returns-2 : tie.Need-returns-2
-returns-2 c = sym (not-falling (c .before .before .before .before .before .before .before .args .bytes .now) (c .before .before .before .before .before .before .before .pre .0) (c .before .before .before .before .before .before .before .pre .1) _ (c .before .before .before .before .before .currents .ensures) (c .before .before .before .before .if1 .left) _ (c .before .before .before .current .ensures) _ (c .before .ready-falls .ensures) (not-true _ (c .if2 .taken)))
+returns-2 c = sym (not-falling (c .before .before .before .before .before .before .before .before .before .args .bytes .now) (c .before .before .before .before .before .before .before .before .before .pre .0) (c .before .before .before .before .before .before .before .before .before .pre .1) _ (c .before .before .before .before .before .before .before .currents .ensures) (c .before .before .before .before .before .before .if1 .left) _ (c .before .before .before .before .before .current .ensures) _ (c .before .ready-falls .ensures) (not-true _ (c .if2 .taken)))
 
-waiters-requires : tie.Need-waiters-requires
-waiters-requires c κs = formed-long (c .before .before .before .before .before .before .before .args .bytes .now) (c .before .before .before .before .before .before .before .pre .0)
-
-counts-fit-requires : tie.Need-counts-fit-requires
-counts-fit-requires c κs = formed-long (c .before .before .before .before .before .before .before .before .args .bytes .now) (c .before .before .before .before .before .before .before .before .pre .0)
+queues-fit-requires : tie.Need-queues-fit-requires
+queues-fit-requires c κs = search needs
 
 returns-3 : tie.Need-returns-3
-returns-3 c = c .counts-fit .ensures ∙ counts-left (c .before .before .before .before .before .before .before .before .before .args .bytes .now) (c .before .before .before .before .before .before .before .before .before .pre .0) (c .before .before .before .before .before .before .before .before .before .pre .1) _ (c .before .before .before .before .before .before .before .currents .ensures) (c .before .before .before .before .before .before .if1 .left) _ (c .before .before .before .before .before .current .ensures) _ (c .before .before .before .ready-falls .ensures) (not-false _ (c .before .before .if2 .left)) (c .before .waiters .result) (c .before .waiters .ensures)
+returns-3 c = c .queues-fit .ensures ∙ counts-left (c .before .before .before .before .before .before .before .before .before .before .args .bytes .now) (c .before .before .before .before .before .before .before .before .before .before .pre .0) (c .before .before .before .before .before .before .before .before .before .before .pre .1) _ (c .before .before .before .before .before .before .before .before .currents .ensures) (c .before .before .before .before .before .before .before .if1 .left) _ (c .before .before .before .before .before .before .current .ensures) _ (c .before .before .ready-falls .ensures) (not-false _ (c .before .if2 .left))
 
 pub runs-spec : {M : Type 1} → statement M
 runs-spec =
@@ -51,10 +60,11 @@ runs-spec =
     returns
     current-requires
     cast-c
+    keys-requires
     add-ready-falls
     shared-slice-read-ready-falls
+    add-ready-falls-2
     ready-falls-requires
     returns-2
-    waiters-requires
-    counts-fit-requires
+    queues-fit-requires
     returns-3)

@@ -1,0 +1,89 @@
+use Prim.Native.Nat.{_+_, _-_, _≤_}
+use native.Mathlib.Omega.{arith}
+use mathlib.Core.Path.{_∙_, _≡_, sym}
+use lib.ListN.{getD, length}
+use borrow.Author.Needs.{needs}
+use Rattle.layout.specs.Bytes.{countAt, fromBytes}
+use Rattle.layout.specs.Offsets.{size}
+use Rattle.lists.specs.Numbers.{all}
+use Rattle.tables.specs.Limits.{semaphoreLimit}
+use Rattle.tables.specs.Readers.{semaphore}
+use Rattle.tables.specs.Test.{semaphoreFits}
+use Rattle.layout.proofs.Image.{semaphore-said}
+use Rattle.lists.proofs.NumberLaws.{all-next, all-none}
+use Rattle.soundness.specs.Squeeze.{blockLimit}
+use Rattle.soundness.proofs.counts.block_fits.Statement.{statement}
+use Rattle.soundness.proofs.counts.block_fits.Tie as tie
+
+abbrev Inv-loop : tie.InvT-loop
+Inv-loop bytes x many more from ok₀ i₀ ok i = (i ≤ blockLimit) × (ok ≡ all i (λ i. semaphoreFits (semaphore (fromBytes bytes) (from + i)) (getD many (from + i) 0 + getD more (from + i) 0))) × (length bytes ≡ size) × (from + blockLimit ≤ semaphoreLimit)
+
+abbrev μ-loop : tie.MeasureT-loop
+μ-loop bytes x many more from ok₀ i₀ ok i = blockLimit - i
+
+loop-holds : tie.Need-loop-holds Inv-loop μ-loop
+loop-holds c = (search needs, sym (all-none _), search needs, search needs)
+
+add-s : tie.Need-add-s Inv-loop μ-loop
+add-s c = search needs
+
+add-count-fits : tie.Need-add-count-fits Inv-loop μ-loop
+add-count-fits c = search needs
+
+shared-slice-read-count-fits : tie.Need-shared-slice-read-count-fits Inv-loop μ-loop
+shared-slice-read-count-fits c = search needs
+
+element-copy-out-count-fits : tie.Need-element-copy-out-count-fits Inv-loop μ-loop
+element-copy-out-count-fits c = search needs
+
+element-copy-out-count-fits-2 : tie.Need-element-copy-out-count-fits-2 Inv-loop μ-loop
+element-copy-out-count-fits-2 c = search needs
+
+element-copy-out-count-fits-3 : tie.Need-element-copy-out-count-fits-3 Inv-loop μ-loop
+element-copy-out-count-fits-3 c = search needs
+
+add-count-fits-2 : tie.Need-add-count-fits-2 Inv-loop μ-loop
+add-count-fits-2 c = let m = c .before .before .before .before .before .before .before .pre .3 (c .before .before .before .before .before .before .before .args .from + c .before .before .before .before .before .loop .i) in let n = c .before .before .before .before .before .before .before .pre .4 (c .before .before .before .before .before .before .before .args .from + c .before .before .before .before .before .loop .i) in record { fits = omega arith }
+
+count-fits-requires : tie.Need-count-fits-requires Inv-loop μ-loop
+count-fits-requires c κs = let m = c .before .before .before .before .before .before .before .pre .3 (c .before .before .before .before .before .before .before .args .from + c .before .before .before .before .before .loop .i) in let n = c .before .before .before .before .before .before .before .pre .4 (c .before .before .before .before .before .before .before .args .from + c .before .before .before .before .before .loop .i) in omega arith
+
+add-i : tie.Need-add-i Inv-loop μ-loop
+add-i c = search needs
+
+loop-less : tie.Need-loop-less Inv-loop μ-loop
+loop-less c = search needs
+
+loop-again : tie.Need-loop-again Inv-loop μ-loop
+loop-again c =
+    let bs = c .before .before .before .before .before .before .before .before .args .bytes .now in
+    let many = c .before .before .before .before .before .before .before .before .args .many .now in
+    let more = c .before .before .before .before .before .before .before .before .args .more .now in
+    let s = c .before .before .before .before .before .before .before .before .args .from + c .before .before .before .before .before .before .loop .i in
+    let one : c .count-fits .result ≡ semaphoreFits (semaphore (fromBytes bs) s) (getD many s 0 + getD more s 0) = c .count-fits .ensures (countAt bs s) (c .before .before .before .before .before .before .before .before .pre .2 .said (c .before .before .before .before .before .before .loop .i) (omega arith)) ∙ sym (rw (semaphore-said bs s (omega arith))) in
+    (search needs, all-next (λ i. semaphoreFits (semaphore (fromBytes bs) (c .before .before .before .before .before .before .before .before .args .from + i)) (getD many (c .before .before .before .before .before .before .before .before .args .from + i) 0 + getD more (c .before .before .before .before .before .before .before .before .args .from + i) 0)) (c .before .before .before .before .before .before .loop .i) _ _ (c .before .before .before .before .before .before .loop .inv .1) one, search needs, search needs)
+
+returns : tie.Need-returns Inv-loop μ-loop
+returns c =
+    let k : c .before .loop .i ≡ blockLimit = omega arith in
+    rw k at (c .before .loop .inv .1)
+
+pub block-fits-spec : {M : Type 1} → statement M
+block-fits-spec =
+    tie.close
+    (tie.spec
+    Inv-loop
+    μ-loop
+    loop-holds
+    add-s
+    add-count-fits
+    shared-slice-read-count-fits
+    element-copy-out-count-fits
+    element-copy-out-count-fits-2
+    element-copy-out-count-fits-3
+    add-count-fits-2
+    count-fits-requires
+    add-i
+    loop-less
+    loop-again
+    returns)

@@ -1,0 +1,71 @@
+use Prim.Native.Nat.{_-_, _<_, _≤_, ℕ}
+use native.Mathlib.Omega.{arith}
+use mathlib.Core.Path.{_≡_}
+use lib.ListN.{getD, length, length-set}
+use borrow.Author.Needs.{needs}
+use Rattle.layout.specs.Offsets.{size}
+use Rattle.tables.specs.Limits.{processLimit}
+use Rattle.soundness.specs.Keys.{keyOf}
+use Rattle.soundness.proofs.ready.keys.Statement.{statement}
+use Rattle.soundness.proofs.Tally.{filled-one}
+use Rattle.soundness.proofs.ready.keys.Tie as tie
+
+abbrev Inv-loop : tie.InvT-loop
+Inv-loop bytes k₀ i₀ k i = (i ≤ processLimit) × (length k ≡ processLimit) × ((p : ℕ) → p < i → getD k p 0 ≡ keyOf bytes p) × (length bytes ≡ size)
+
+abbrev μ-loop : tie.MeasureT-loop
+μ-loop bytes k₀ i₀ k i = processLimit - i
+
+loop-holds : tie.Need-loop-holds Inv-loop μ-loop
+loop-holds c = (search needs, search needs, (λ p h. absurd (omega arith)), search needs)
+
+shared-slice-read-key : tie.Need-shared-slice-read-key Inv-loop μ-loop
+shared-slice-read-key c = search needs
+
+add-key : tie.Need-add-key Inv-loop μ-loop
+add-key c = search needs
+
+shared-slice-read-key-2 : tie.Need-shared-slice-read-key-2 Inv-loop μ-loop
+shared-slice-read-key-2 c = search needs
+
+key-requires : tie.Need-key-requires Inv-loop μ-loop
+key-requires c κs = c .before .before .before .before .before .pre .1 (c .before .before .before .loop .i) (omega arith)
+
+array-write-k : tie.Need-array-write-k Inv-loop μ-loop
+array-write-k c = search needs
+
+add-i : tie.Need-add-i Inv-loop μ-loop
+add-i c = search needs
+
+loop-less : tie.Need-loop-less Inv-loop μ-loop
+loop-less c = search needs
+
+loop-again : tie.Need-loop-again Inv-loop μ-loop
+loop-again c = (
+  search needs,
+  simp length-set (c .before .before .before .before .loop .inv .1),
+  filled-one (keyOf (c .before .before .before .before .before .before .args .bytes .now)) (c .before .before .before .before .loop .k) (c .before .before .before .before .loop .i) (c .key .result) (omega arith) (c .before .before .before .before .loop .inv .2) (c .key .ensures),
+  search needs,
+)
+
+returns : tie.Need-returns Inv-loop μ-loop
+returns c =
+    let e : c .before .loop .i ≡ processLimit = omega arith in
+    rw e at (c .before .loop .inv .2)
+
+pub keys-spec : {M : Type 1} → statement M
+keys-spec =
+    tie.close
+    (tie.spec
+    Inv-loop
+    μ-loop
+    loop-holds
+    shared-slice-read-key
+    add-key
+    shared-slice-read-key-2
+    key-requires
+    array-write-k
+    add-i
+    loop-less
+    loop-again
+    returns)

@@ -1,0 +1,56 @@
+use Prim.Native.Nat.{_*_, _+_, _-_, _/_, _≤_}
+use native.Mathlib.Omega.{arith}
+use mathlib.Core.Path.{_≡_}
+use lib.ListN.{length}
+use borrow.Author.Needs.{needs}
+use Rattle.layout.specs.Offsets.{size}
+use Rattle.tables.specs.Limits.{semaphoreLimit}
+use Rattle.soundness.specs.Squeeze.{Squeezed, blockLimit, laneLimit}
+use Rattle.soundness.proofs.Squeezing.{squeezed-none}
+use Rattle.soundness.proofs.squeeze.smalls.Statement.{statement}
+use Rattle.soundness.proofs.squeeze.smalls.Tie as tie
+
+abbrev Inv-loop : tie.InvT-loop
+Inv-loop bytes from x₀ j₀ x j = (j ≤ blockLimit / laneLimit) × Squeezed bytes from (j * laneLimit) x × (length bytes ≡ size) × (from + blockLimit ≤ semaphoreLimit)
+
+abbrev μ-loop : tie.MeasureT-loop
+μ-loop bytes from x₀ j₀ x j = blockLimit / laneLimit - j
+
+loop-holds : tie.Need-loop-holds Inv-loop μ-loop
+loop-holds c = (search needs, squeezed-none _ _ (0 * laneLimit) _ (search needs) (omega arith), search needs, search needs)
+
+mul-squeeze : tie.Need-mul-squeeze Inv-loop μ-loop
+mul-squeeze c = search needs
+
+squeeze-requires : tie.Need-squeeze-requires Inv-loop μ-loop
+squeeze-requires c κs = search needs
+
+add-j : tie.Need-add-j Inv-loop μ-loop
+add-j c = search needs
+
+loop-less : tie.Need-loop-less Inv-loop μ-loop
+loop-less c = search needs
+
+loop-again : tie.Need-loop-again Inv-loop μ-loop
+loop-again c =
+    let e : (c .before .before .before .loop .j + 1) * laneLimit ≡ c .before .before .before .loop .j * laneLimit + laneLimit = omega arith in
+    (search needs, rw e (c .squeeze .ensures), search needs, search needs)
+
+returns : tie.Need-returns Inv-loop μ-loop
+returns c =
+    let k : c .before .loop .j ≡ blockLimit / laneLimit = omega arith in
+    rw k at (c .before .loop .inv .1)
+
+pub smalls-spec : {M : Type 1} → statement M
+smalls-spec =
+    tie.close
+    (tie.spec
+    Inv-loop
+    μ-loop
+    loop-holds
+    mul-squeeze
+    squeeze-requires
+    add-j
+    loop-less
+    loop-again
+    returns)

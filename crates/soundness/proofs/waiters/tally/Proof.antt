@@ -1,0 +1,103 @@
+use Prim.Native.Nat.{_+_, _-_, _<_, _≤_}
+use native.Mathlib.Nat.{zero-add}
+use native.Mathlib.Omega.{arith}
+use mathlib.Core.Bool.{true}
+use mathlib.Core.Path.{_≡_}
+use borrow.Author.Needs.{needs}
+use Rattle.layout.specs.Bytes.{fromBytes, wellFormed}
+use Rattle.tables.specs.Limits.{processLimit}
+use Rattle.layout.proofs.Image.{formed-long, formed-state}
+use Rattle.soundness.specs.Tallies.{Tallied, halfLimit}
+use Rattle.soundness.proofs.waiters.tally.Statement.{statement}
+use Rattle.soundness.proofs.StateBytes.{waits-cell}
+use Rattle.soundness.proofs.Tally.{tallied-next}
+use Rattle.soundness.proofs.waiters.tally.Tie as tie
+
+abbrev Inv-loop : tie.InvT-loop
+Inv-loop many₀ more₀ bytes i₀ many more i = (i ≤ halfLimit) × Tallied (fromBytes bytes) 0 i many × Tallied (fromBytes bytes) halfLimit i more × (wellFormed bytes ≡ true)
+
+abbrev μ-loop : tie.MeasureT-loop
+μ-loop many₀ more₀ bytes i₀ many more i = halfLimit - i
+
+loop-holds : tie.Need-loop-holds Inv-loop μ-loop
+loop-holds c = (search needs, c .before .pre .1, c .before .pre .2, search needs)
+
+shared-slice-read-cell : tie.Need-shared-slice-read-cell Inv-loop μ-loop
+shared-slice-read-cell c = let l = formed-long (c .before .before .before .before .args .bytes .now) (c .before .before .before .before .pre .0) in omega arith
+
+cell-requires : tie.Need-cell-requires Inv-loop μ-loop
+cell-requires c κs =
+    let h : c .before .before .loop .i < processLimit = omega arith in
+    (search needs, rw (zero-add (c .before .before .loop .i)) at (formed-state (c .before .before .before .before .args .bytes .now) (c .before .before .before .before .pre .0) (c .before .before .loop .i) h))
+
+element-copy-out-many : tie.Need-element-copy-out-many Inv-loop μ-loop
+element-copy-out-many c = search needs
+
+add-many : tie.Need-add-many Inv-loop μ-loop
+add-many c = let f = c .before .before .before .before .loop .inv .1 .few (c .before .cell .result) in record { fits = omega arith }
+
+element-write-many : tie.Need-element-write-many Inv-loop μ-loop
+element-write-many c = search needs
+
+add-cell : tie.Need-add-cell Inv-loop μ-loop
+add-cell c = search needs
+
+shared-slice-read-cell-2 : tie.Need-shared-slice-read-cell-2 Inv-loop μ-loop
+shared-slice-read-cell-2 c = let l = formed-long (c .before .before .before .before .before .before .before .args .bytes .now) (c .before .before .before .before .before .before .before .pre .0) in omega arith
+
+cell-requires-2 : tie.Need-cell-requires-2 Inv-loop μ-loop
+cell-requires-2 c κs =
+    let h : halfLimit + c .before .before .before .before .before .loop .i < processLimit = omega arith in
+    (search needs, rw (zero-add (halfLimit + c .before .before .before .before .before .loop .i)) at (formed-state (c .before .before .before .before .before .before .before .args .bytes .now) (c .before .before .before .before .before .before .before .pre .0) (halfLimit + c .before .before .before .before .before .loop .i) h))
+
+element-copy-out-more : tie.Need-element-copy-out-more Inv-loop μ-loop
+element-copy-out-more c = search needs
+
+add-more : tie.Need-add-more Inv-loop μ-loop
+add-more c = let f = c .before .before .before .before .before .before .before .loop .inv .2 .few (c .before .cell2 .result) in record { fits = omega arith }
+
+element-write-more : tie.Need-element-write-more Inv-loop μ-loop
+element-write-more c = search needs
+
+add-i : tie.Need-add-i Inv-loop μ-loop
+add-i c = search needs
+
+loop-less : tie.Need-loop-less Inv-loop μ-loop
+loop-less c = search needs
+
+loop-again : tie.Need-loop-again Inv-loop μ-loop
+loop-again c =
+    let bs = (c .before .before .before .before .before .before .before .before .before .args .bytes .now) in (
+      search needs,
+      tallied-next (fromBytes bs) 0 (c .before .before .before .before .before .before .before .loop .i) (c .before .before .before .before .before .before .before .loop .many) (c .before .before .before .before .before .before .before .loop .inv .1) (c .before .before .before .before .cell .result) (c .before .before .before .before .cell .ensures .0) (λ s h. rw (zero-add (c .before .before .before .before .before .before .before .loop .i)) (waits-cell bs (c .before .before .before .before .before .before .before .loop .i) (c .before .before .before .before .before .before .before .loop .i) (c .before .before .before .before .cell .result) (omega arith) (c .before .before .before .before .cell .ensures .1) s h)),
+      tallied-next (fromBytes bs) halfLimit (c .before .before .before .before .before .before .before .loop .i) (c .before .before .before .before .before .before .before .loop .more) (c .before .before .before .before .before .before .before .loop .inv .2) (c .before .cell2 .result) (c .before .cell2 .ensures .0) (waits-cell bs (halfLimit + c .before .before .before .before .before .before .before .loop .i) (c .before .before .before .before .before .before .before .loop .i) (c .before .cell2 .result) (omega arith) (c .before .cell2 .ensures .1)),
+      search needs,
+    )
+
+returns : tie.Need-returns Inv-loop μ-loop
+returns c =
+    let k : c .before .loop .i ≡ halfLimit = omega arith in
+    (rw k at (c .before .loop .inv .1), rw k at (c .before .loop .inv .2))
+
+pub tally-spec : {M : Type 1} → statement M
+tally-spec =
+    tie.close
+    (tie.spec
+    Inv-loop
+    μ-loop
+    loop-holds
+    shared-slice-read-cell
+    cell-requires
+    element-copy-out-many
+    add-many
+    element-write-many
+    add-cell
+    shared-slice-read-cell-2
+    cell-requires-2
+    element-copy-out-more
+    add-more
+    element-write-more
+    add-i
+    loop-less
+    loop-again
+    returns)

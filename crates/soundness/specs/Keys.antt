@@ -1,0 +1,19 @@
+-- What the ready list is compared by.
+use Prim.Native.Nat.{ℕ, _+_}
+use mathlib.Core.List.{List}
+use lib.Dec.{eqb}
+use lib.ListN.{getD}
+use Rattle.lists.specs.Lists.{if_then_else_}
+use Rattle.layout.specs.Offsets.{prioritiesAt}
+
+-- a ready process as its priority and one, any other as 0
+abbrev pub keyFrom : ℕ → ℕ → ℕ
+keyFrom state priority = if eqb state 2 then priority + 1 else 0
+
+-- that of process p in the bytes
+abbrev pub keyOf : List ℕ → ℕ → ℕ
+keyOf bs p = keyFrom (getD bs p 0) (getD bs (prioritiesAt + p) 0)
+
+-- the last key that was not 0
+abbrev pub latestOf : ℕ → ℕ → ℕ
+latestOf last key = if eqb key 0 then last else key
