@@ -1,4 +1,4 @@
-// The check that lent bytes are sound tables. Its loops go to their end and take no branch that sound tables could have guessed wrong; where nothing is looked up by number, many bytes are done at a time.
+// The check that lent bytes are sound tables. Its loops take no branch that sound tables could make guess wrong, and where nothing is looked up by number they are done many bytes at a time.
 pub mod check;
 pub mod counts;
 pub mod form;
