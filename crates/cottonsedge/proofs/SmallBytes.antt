@@ -14,15 +14,14 @@ use Rattle.layout.specs.Offsets.{countsAt, nextProcessAt, nextSemaphoreAt, orde
 use Rattle.lists.specs.Lists.{if_then_else_}
 use Rattle.tables.specs.Counts.{CountsFit}
 use Rattle.tables.specs.Limits.{processLimit, semaphoreLimit}
-use Rattle.tables.specs.Readers.{countOf, isUsed, priorityOf, stateOf}
+use Rattle.tables.specs.Readers.{countOf, isUsed, priorityOf, process, stateOf}
 use Rattle.tables.specs.Sound.{Sound}
-use Rattle.tables.specs.States.{isFree}
 use Rattle.tables.specs.declared.State.{State}
 use Rattle.tables.specs.declared.State.the-variants.{Current, Free, Ready, Suspended, Waiting}
 use Rattle.tables.specs.declared.Tables.{Tables}
 use Rattle.layout.proofs.Image.{byte-at, bytes-long}
-use Rattle.lists.proofs.Bools.{below?, either, split}
-use Rattle.tables.proofs.States.{is-free}
+use Rattle.lists.proofs.Bools.{below?, split}
+use Rattle.tables.proofs.SlotLaws.{priority-top}
 use Rattle.cottonsedge.specs.Demands.{Bytes}
 use Rattle.cottonsedge.proofs.Standing.{sound-held}
 
@@ -47,11 +46,7 @@ count-small c k = let n : ℕ = ofZ w32 c in chosen (eqb k 0) _ _ (omega arith) 
 
 module _ {t : Tables} (S : Sound t) (F : CountsFit t) where
   priority-small : (p : ℕ) → priorityOf t p < 256
-  priority-small p =
-      either p 0 (λ e. let z : priorityOf t p ≡ 0 = rw e (S .laid .idle) in omega arith)
-      (λ e. split (isFree (stateOf t p))
-      (λ k. let z : priorityOf t p ≡ 0 = S .laid .free p (is-free (stateOf t p) k) in omega arith)
-      (λ k. let z = S .laid .live p (omega arith) k in omega arith))
+  priority-small p = let z = priority-top p (process t p) (S .laid .slot p) in omega arith
 
   place-small : (i : ℕ) → getD (t .order) i 0 < 256
   place-small i =
