@@ -1,15 +1,14 @@
 -- Sound tables stand in bytes: every number that is written is below 256. Assumes nothing.
-use Prim.Native.Nat.{_%_, _-_, _/_, _<_, ℕ}
+use Prim.Native.Nat.{_%_, _+_, _-_, _/_, _<_, ℕ}
 use native.Mathlib.Omega.{arith}
 use mathlib.Core.Bool.{Bool, false, true}
 use mathlib.Core.Path.{_≡_}
 use lib.Dec.{eqb, ltb}
-use lib.IntN.{ℤ}
 use lib.ListN.{List·getD-eq-default, getD, length}
 use mir.Syntax.{w32}
 use mir.Val.{ofZ}
 use borrow.Author.Tests.{ltb-true}
-use Rattle.layout.specs.Bytes.{byteOf, countByte, stateByte, toBytes, usedByte}
+use Rattle.layout.specs.Bytes.{byteOf, stateByte, toBytes, usedByte, wordByte}
 use Rattle.layout.specs.Offsets.{countsAt, nextProcessAt, nextSemaphoreAt, orderAt, prioritiesAt, size, statesAt, usedAt}
 use Rattle.lists.specs.Lists.{if_then_else_}
 use Rattle.tables.specs.Counts.{CountsFit}
@@ -41,8 +40,8 @@ used-small : (u : Bool) → usedByte u < 256
 used-small true = omega arith
 used-small false = omega arith
 
-count-small : (c : ℤ) (k : ℕ) → countByte c k < 256
-count-small c k = let n : ℕ = ofZ w32 c in chosen (eqb k 0) _ _ (omega arith) (chosen (eqb k 1) _ _ (omega arith) (chosen (eqb k 2) _ _ (omega arith) (omega arith)))
+word-small : (n k : ℕ) → wordByte n k < 256
+word-small n k = chosen (eqb k 0) _ _ (omega arith) (chosen (eqb k 1) _ _ (omega arith) (chosen (eqb k 2) _ _ (omega arith) (omega arith)))
 
 module _ {t : Tables} (S : Sound t) (F : CountsFit t) where
   priority-small : (p : ℕ) → priorityOf t p < 256
@@ -59,9 +58,10 @@ module _ {t : Tables} (S : Sound t) (F : CountsFit t) where
       chosen (ltb i prioritiesAt) _ _ (state-small (stateOf t (i - statesAt)))
       (chosen (ltb i usedAt) _ _ (priority-small (i - prioritiesAt))
       (chosen (ltb i countsAt) _ _ (used-small (isUsed t (i - usedAt)))
-      (chosen (ltb i orderAt) _ _ (count-small (countOf t ((i - countsAt) / 4)) ((i - countsAt) % 4))
+      (chosen (ltb i orderAt) _ _ (word-small (ofZ w32 (countOf t ((i - countsAt) / 4))) ((i - countsAt) % 4))
       (chosen (ltb i nextSemaphoreAt) _ _ (place-small (i - orderAt))
-      (chosen (ltb i nextProcessAt) (t .«next_semaphore») (t .«next_process») (omega arith) (omega arith))))))
+      (chosen (ltb i nextProcessAt) _ _ (omega arith)
+      (chosen (ltb i (nextProcessAt + 1)) _ _ (omega arith) (omega arith)))))))
 
   pub sound-bytes : Bytes (toBytes t)
   sound-bytes i =

@@ -5,4 +5,5 @@ pub mod Regions
 pub mod Writers
 pub mod Readers
 pub mod Image
+pub mod BegunLaws
 pub mod Written

@@ -1,3 +1,4 @@
 pub mod Offsets
 pub mod Bytes
 pub mod Stands
+pub mod Begun

@@ -35,7 +35,7 @@ returns-2 : tie.Need-returns-2
 unfolding boot bootAnswer booted
 returns-2 c =
     let e = eq-eqb _ size (c .before .before .before .before .before .before .before .before .if1 .left) in
-    let whole = begun-all boot _ (begun-next boot nextProcessAt _ 1 (begun-next boot nextSemaphoreAt _ 0 (c .before .before .put-row .ensures) (omega arith) refl) (omega arith) refl) in
+    let whole = begun-all boot _ _ refl (begun-next boot nextProcessAt _ 1 (begun-next boot nextSemaphoreAt _ 0 (c .before .before .put-row .ensures) (omega arith) refl) (omega arith) refl) in
     (sym (rw e), whole ∙ sym (rw e))
 
 pub cottonsedge-boot-spec : {M : Type 1} → statement M
