@@ -18,13 +18,14 @@ use Rattle.tables.specs.Limits.{processLimit, semaphoreLimit}
 use Rattle.tables.specs.Readers.{countOf, currentOf, currents, freeSemaphore, isUsed}
 use Rattle.tables.specs.Sound.{Sound}
 use Rattle.tables.specs.declared.Tables.{Tables}
-use Rattle.kernel.specs.Arguments.{Chosen, indexBelow}
+use Rattle.kernel.specs.Target.{Chosen}
+use Rattle.scheduling.specs.Index.{indexBelow}
 use Rattle.kernel.specs.Meets.{Meets}
-use Rattle.kernel.specs.Row.{found}
-use Rattle.kernel.specs.declared.index.Index.the-variants.{At, Outside}
+use Rattle.scheduling.specs.Row.{found}
+use Rattle.scheduling.specs.declared.index.Index.the-variants.{At, Outside}
 use Rattle.kernel.specs.declared.target.Target.the-variants.{Refusal, Used}
-use Rattle.kernel.proofs.Arguments.{no-number, number}
-use Rattle.kernel.proofs.Found.{line-current, told-nobody, told-somebody}
+use Rattle.scheduling.proofs.IndexLaws.{no-number, number}
+use Rattle.scheduling.proofs.Found.{line-current, told-nobody, told-somebody}
 
 -- a rule by another name
 pub alike : (f g : Tables → Outcome) (a b : List ℕ) (r : Answer) → ((t : Tables) → Stands t a → Sound t → f t ≡ g t) → Meets g a b r → Meets f a b r

@@ -17,14 +17,14 @@ use Rattle.tables.specs.Limits.{priorityLimit, processLimit, semaphoreLimit}
 use Rattle.tables.specs.Setters.{withNextProcess, withNextSemaphore, withProcess, withSemaphore}
 use Rattle.tables.specs.declared.State.the-variants.{Suspended}
 use Rattle.tables.specs.declared.Tables.{Tables}
-use Rattle.kernel.specs.Arguments.{indexBelow}
+use Rattle.scheduling.specs.Index.{indexBelow}
 use Rattle.kernel.specs.Meets.{Meets}
-use Rattle.kernel.specs.Search.{firstFree}
-use Rattle.kernel.specs.declared.index.Index.the-variants.{Outside}
-use Rattle.kernel.proofs.Arguments.{no-number}
+use Rattle.scheduling.specs.Search.{firstFree}
+use Rattle.scheduling.specs.declared.index.Index.the-variants.{Outside}
+use Rattle.scheduling.proofs.IndexLaws.{no-number}
 use Rattle.kernel.proofs.CallLaws.{does, refuses}
-use Rattle.kernel.proofs.Found.{first-none, first-some}
-use Rattle.kernel.proofs.SearchLaws.{first-semaphore, first-slot}
+use Rattle.scheduling.proofs.Found.{first-none, first-some}
+use Rattle.scheduling.proofs.SearchLaws.{first-semaphore, first-slot}
 
 -- A semaphore
 

@@ -19,10 +19,10 @@ use Rattle.tables.specs.declared.State.the-variants.{Current, Free, Ready, Susp
 use Rattle.tables.specs.declared.Tables.{Tables}
 use Rattle.layout.proofs.Compose.{with-told}
 use Rattle.tables.proofs.Sentences.{waiter-below}
-use Rattle.kernel.specs.Counts.{raise}
+use Rattle.scheduling.specs.Counts.{raise}
 use Rattle.kernel.specs.Meets.{Meets}
 use Rattle.kernel.proofs.CallLaws.{does, refuses}
-use Rattle.kernel.proofs.CountLaws.{raise-sound}
+use Rattle.scheduling.proofs.CountLaws.{raise-sound}
 
 abbrev resumed : Tables → ℕ → State → Outcome
 resumed t p Free = refused 7 t

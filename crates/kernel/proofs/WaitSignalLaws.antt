@@ -18,12 +18,12 @@ use Rattle.tables.specs.Readers.{countOf, currentOf, isUsed, line, queue}
 use Rattle.tables.specs.Setters.{withCount}
 use Rattle.tables.specs.Sound.{Sound}
 use Rattle.tables.specs.declared.Tables.{Tables}
-use Rattle.kernel.specs.Counts.{lower, raise}
+use Rattle.scheduling.specs.Counts.{lower, raise}
 use Rattle.kernel.specs.Meets.{Meets}
-use Rattle.kernel.specs.Row.{found}
+use Rattle.scheduling.specs.Row.{found}
 use Rattle.kernel.proofs.CallLaws.{does, refuses, runs}
-use Rattle.kernel.proofs.CountLaws.{lower-sound, somebody-waits}
-use Rattle.kernel.proofs.Found.{line-queue, told-nobody, told-somebody}
+use Rattle.scheduling.proofs.CountLaws.{lower-sound, somebody-waits}
+use Rattle.scheduling.proofs.Found.{line-queue, told-nobody, told-somebody}
 
 module _ (t : Tables) (s : ℕ) (h : s < semaphoreLimit) (u : isUsed t s ≡ true) where
   wait-barred : (eqb (currentOf t) 0 && leZ (countOf t s) (pos 0)) ≡ true → step t (Wait (pos s)) ≡ refused 10 t

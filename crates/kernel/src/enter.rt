@@ -1,6 +1,5 @@
 // A call by its number: 13 and 14, then the call's own checks.
 use crate::count::count_of;
-use crate::counts::is_zero;
 use crate::delete::delete;
 use crate::kill::kill;
 use crate::make_process::make_process;
@@ -12,6 +11,7 @@ use crate::suspend::suspend;
 use crate::wait::wait;
 use crate::yields::yields;
 use rules::Answer;
+use scheduling::counts::is_zero;
 ghost use mathlib.Core.Path.{_≡_};
 ghost use lib.ListN.{length};
 ghost use Rattle.layout.specs.Offsets.{size};

@@ -1,13 +1,13 @@
 // Call 09: kill.
-use crate::counts::raised;
-use crate::index::Index;
-use crate::index::index_below;
-use crate::schedule::reschedule;
 use layout::fields::count;
 use layout::fields::process;
 use layout::fields::put_count;
 use layout::fields::put_process;
 use rules::Answer;
+use scheduling::counts::raised;
+use scheduling::index::Index;
+use scheduling::index::index_below;
+use scheduling::schedule::reschedule;
 use tables::Process;
 use tables::State;
 use tables::Tables;
@@ -22,7 +22,7 @@ ghost use Rattle.layout.specs.Offsets.{size};
 ghost use Rattle.layout.specs.Stands.{Turns};
 ghost use Rattle.rules.specs.Calls.{Kill, step};
 ghost use Rattle.kernel.specs.Meets.{Meets};
-ghost use Rattle.kernel.specs.Counts.{raise};
+ghost use Rattle.scheduling.specs.Counts.{raise};
 
 fn free_slot(bytes: &mut [u8], p: u8)
     requires { ⌜ length (now bytes) ≡ size ⌝ }

@@ -1,13 +1,13 @@
 // Call 06: make a process.
-use crate::index::Index;
-use crate::index::index_below;
-use crate::search::free_round;
-use crate::search::one_past;
 use layout::fields::next_process;
 use layout::fields::put_next_process;
 use layout::fields::put_process;
 use layout::offsets::STATES;
 use rules::Answer;
+use scheduling::index::Index;
+use scheduling::index::index_below;
+use scheduling::search::free_round;
+use scheduling::search::one_past;
 use tables::Process;
 use tables::State;
 use tables::Tables;

@@ -1,12 +1,12 @@
 // Call 03: make a semaphore.
-use crate::counts::below_zero;
-use crate::search::free_round;
-use crate::search::one_past;
 use layout::fields::next_semaphore;
 use layout::fields::put_next_semaphore;
 use layout::fields::put_semaphore;
 use layout::offsets::USED;
 use rules::Answer;
+use scheduling::counts::below_zero;
+use scheduling::search::free_round;
+use scheduling::search::one_past;
 use tables::Tables;
 ghost use mathlib.Core.Path.{_≡_};
 ghost use lib.ListN.{length};

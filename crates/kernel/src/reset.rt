@@ -1,9 +1,9 @@
 // Call 05: reset a semaphore.
-use crate::counts::below_zero;
 use crate::release::release;
 use crate::target::Target;
 use crate::target::used_semaphore;
 use rules::Answer;
+use scheduling::counts::below_zero;
 ghost use mathlib.Core.Path.{_≡_};
 ghost use lib.ListN.{length};
 ghost use Rattle.layout.specs.Offsets.{size};

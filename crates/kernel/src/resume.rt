@@ -1,10 +1,10 @@
 // Call 07: resume.
-use crate::index::Index;
-use crate::index::index_below;
-use crate::schedule::make_ready;
-use crate::schedule::reschedule;
 use layout::fields::process;
 use rules::Answer;
+use scheduling::index::Index;
+use scheduling::index::index_below;
+use scheduling::schedule::make_ready;
+use scheduling::schedule::reschedule;
 use tables::State;
 use tables::Tables;
 ghost use mathlib.Core.Path.{_≡_};

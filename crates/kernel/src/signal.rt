@@ -1,16 +1,16 @@
 // Call 02: signal.
-use crate::counts::below_zero;
-use crate::counts::is_full;
-use crate::counts::raised;
-use crate::row::find;
-use crate::schedule::make_ready;
-use crate::schedule::reschedule;
 use crate::target::Target;
 use crate::target::used_semaphore;
 use layout::fields::count;
 use layout::fields::put_count;
 use layout::state::WAITING;
 use rules::Answer;
+use scheduling::counts::below_zero;
+use scheduling::counts::is_full;
+use scheduling::counts::raised;
+use scheduling::row::find;
+use scheduling::schedule::make_ready;
+use scheduling::schedule::reschedule;
 ghost use mathlib.Core.Path.{_≡_};
 ghost use mathlib.Core.Bool.{true};
 ghost use Prim.Native.Nat.{_<_};

@@ -1,10 +1,10 @@
 // Call 08: suspend.
-use crate::index::Index;
-use crate::index::index_below;
-use crate::schedule::reschedule;
 use layout::fields::process;
 use layout::fields::put_state;
 use rules::Answer;
+use scheduling::index::Index;
+use scheduling::index::index_below;
+use scheduling::schedule::reschedule;
 use tables::State;
 use tables::Tables;
 ghost use mathlib.Core.Path.{_≡_};

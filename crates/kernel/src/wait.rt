@@ -1,16 +1,16 @@
 // Call 01: wait.
-use crate::counts::below_zero;
-use crate::counts::is_spent;
-use crate::counts::lowered;
-use crate::row::find;
-use crate::schedule::make_wait;
-use crate::schedule::reschedule;
 use crate::target::Target;
 use crate::target::used_semaphore;
 use layout::fields::count;
 use layout::fields::put_count;
 use layout::state::CURRENT;
 use rules::Answer;
+use scheduling::counts::below_zero;
+use scheduling::counts::is_spent;
+use scheduling::counts::lowered;
+use scheduling::row::find;
+use scheduling::schedule::make_wait;
+use scheduling::schedule::reschedule;
 ghost use mathlib.Core.Path.{_≡_};
 ghost use mathlib.Core.Bool.{true, _&&_};
 ghost use Prim.Native.Nat.{_<_};

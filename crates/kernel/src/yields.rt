@@ -1,6 +1,6 @@
 // Call 0a: yield.
-use crate::schedule::reschedule;
 use rules::Answer;
+use scheduling::schedule::reschedule;
 ghost use mathlib.Core.Path.{_≡_};
 ghost use lib.ListN.{length};
 ghost use Rattle.layout.specs.Offsets.{size};

@@ -4,7 +4,7 @@ use mir.ValLaws.{toZ-ofZ}
 use borrow.Author.Needs.{needs}
 use Rattle.rules.specs.Calls.{Count}
 use Rattle.kernel.proofs.count.count_of.Statement.{statement}
-use Rattle.kernel.proofs.Arguments.{chosen}
+use Rattle.kernel.proofs.TargetLaws.{chosen}
 use Rattle.layout.proofs.Compose.{told-as}
 use Rattle.kernel.proofs.CallLaws.{semaphore-refused, used-count}
 use Rattle.kernel.proofs.count.count_of.Tie as tie

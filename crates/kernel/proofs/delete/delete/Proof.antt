@@ -2,7 +2,7 @@ use mathlib.Core.Path.{refl}
 use borrow.Author.Needs.{needs}
 use Rattle.rules.specs.Calls.{Delete}
 use Rattle.kernel.proofs.delete.delete.Statement.{statement}
-use Rattle.kernel.proofs.Arguments.{chosen}
+use Rattle.kernel.proofs.TargetLaws.{chosen}
 use Rattle.kernel.proofs.CallLaws.{semaphore-refused, used-delete}
 use Rattle.kernel.proofs.delete.delete.Tie as tie
 

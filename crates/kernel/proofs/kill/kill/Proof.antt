@@ -3,7 +3,7 @@ use borrow.Author.Needs.{needs}
 use Rattle.rules.specs.Calls.{Kill}
 use Rattle.tables.specs.Limits.{processLimit}
 use Rattle.kernel.proofs.kill.kill.Statement.{statement}
-use Rattle.kernel.proofs.Arguments.{number, passed}
+use Rattle.scheduling.proofs.IndexLaws.{number, passed}
 use Rattle.kernel.proofs.CallLaws.{numbered-goes, process-outside}
 use Rattle.kernel.proofs.kill.kill.Tie as tie
 

@@ -4,10 +4,10 @@ use mathlib.Core.Path.{_≡_}
 use borrow.Author.Needs.{needs}
 use Rattle.rules.specs.Calls.{MakeProcess}
 use Rattle.tables.specs.Limits.{priorityLimit}
-use Rattle.kernel.specs.Arguments.{indexBelow}
-use Rattle.kernel.specs.declared.index.Index.the-variants.{At}
+use Rattle.scheduling.specs.Index.{indexBelow}
+use Rattle.scheduling.specs.declared.index.Index.the-variants.{At}
 use Rattle.kernel.proofs.make_process.make_process.Statement.{statement}
-use Rattle.kernel.proofs.Arguments.{number, passed}
+use Rattle.scheduling.proofs.IndexLaws.{number, passed}
 use Rattle.kernel.proofs.CallLaws.{numbered-goes}
 use Rattle.kernel.proofs.MakeLaws.{make-11}
 use Rattle.kernel.proofs.make_process.make_process.Tie as tie

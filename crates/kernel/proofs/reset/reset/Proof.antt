@@ -3,7 +3,7 @@ use mir.Syntax.{w32}
 use mir.ValLaws.{toZ-ofZ}
 use borrow.Author.Needs.{needs}
 use Rattle.kernel.proofs.reset.reset.Statement.{statement}
-use Rattle.kernel.proofs.Arguments.{chosen}
+use Rattle.kernel.proofs.TargetLaws.{chosen}
 use Rattle.kernel.proofs.CallLaws.{reset-refused, used-reset}
 use Rattle.kernel.proofs.EnterLaws.{reset-3}
 use Rattle.kernel.proofs.reset.reset.Tie as tie

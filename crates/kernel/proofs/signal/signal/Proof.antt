@@ -2,7 +2,7 @@ use mathlib.Core.Path.{refl}
 use borrow.Author.Needs.{needs}
 use Rattle.rules.specs.Calls.{Signal}
 use Rattle.kernel.proofs.signal.signal.Statement.{statement}
-use Rattle.kernel.proofs.Arguments.{chosen}
+use Rattle.kernel.proofs.TargetLaws.{chosen}
 use Rattle.kernel.proofs.CallLaws.{semaphore-refused, used-goes}
 use Rattle.kernel.proofs.signal.signal.Tie as tie
 

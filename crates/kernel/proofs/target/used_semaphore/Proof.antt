@@ -1,6 +1,7 @@
 use borrow.Author.Needs.{needs}
 use Rattle.kernel.proofs.target.used_semaphore.Statement.{statement}
-use Rattle.kernel.proofs.Arguments.{no-semaphore, passed, unused-refused, used-chosen}
+use Rattle.scheduling.proofs.IndexLaws.{passed}
+use Rattle.kernel.proofs.TargetLaws.{no-semaphore, unused-refused, used-chosen}
 use Rattle.kernel.proofs.target.used_semaphore.Tie as tie
 
 cast-index-below : tie.Need-cast-index-below

@@ -2,7 +2,7 @@ use mathlib.Core.Path.{refl}
 use borrow.Author.Needs.{needs}
 use Rattle.rules.specs.Calls.{Wait}
 use Rattle.kernel.proofs.wait.wait.Statement.{statement}
-use Rattle.kernel.proofs.Arguments.{chosen}
+use Rattle.kernel.proofs.TargetLaws.{chosen}
 use Rattle.kernel.proofs.CallLaws.{semaphore-refused, used-goes}
 use Rattle.kernel.proofs.wait.wait.Tie as tie
 

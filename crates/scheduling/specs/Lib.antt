@@ -1,0 +1,5 @@
+pub mod Index
+pub mod Counts
+pub mod Row
+pub mod Search
+pub mod Waiters
