@@ -3,12 +3,11 @@ use crate::answer::pack;
 use kernel::enter;
 use rules::Answer;
 use soundness::check::is_sound;
-use soundness::running::current;
 ghost use mathlib.Core.Path.{_≡_};
 ghost use Rattle.cottonsedge.specs.Entries.{answerOf, bytesAfter};
 
 // The process told of tables that aren't sound.
-const NOBODY: u16 = 255;
+const NOBODY: u8 = 255;
 
 // The answer, with the tables changed where they stand. Tables that aren't sound are answered 15 and not a byte of them changes, nor at any other refusal.
 #[no_mangle]
@@ -18,7 +17,7 @@ pub extern "C" fn cottonsedge_call(tables: &mut [u8], call: u8, a: i32, b: i32) 
     if !is_sound(tables) {
         return pack(Answer::Refused(15), NOBODY);
     }
-    let answer = enter::call(tables, call, a, b);
-    let running = current(tables);
-    pack(answer, running)
+    let told = enter::call(tables, call, a, b);
+    let answer = told.answer;
+    pack(answer, told.running)
 }

@@ -1,98 +1,100 @@
--- A call by its number. Assumes nothing.
+-- A call by its number: 13, 14, or the call. Assumes nothing.
 use Prim.Native.Nat.{_<_, _≤_, ℕ}
 use native.Mathlib.Omega.{arith}
-use mathlib.Core.Bool.{Bool, _&&_, _||_, and-false, false, not, true}
+use mathlib.Core.Bool.{Bool, _&&_, _||_, false, not, true}
 use mathlib.Core.List.{List}
 use mathlib.Core.Path.{_∙_, _≡_, ap, refl, subst, sym}
 use lib.Dec.{eqb, ltb}
-use lib.IntN.{pos, ℤ}
+use lib.IntN.{ℤ}
 use mir.Syntax.{w32}
 use mir.Val.{SFits, ofZ, toZ}
 use mir.ValLaws.{toZ-ofZ}
-use borrow.Author.Tests.{le-ltb, lt-ltb, ne-eqb}
-use Rattle.layout.specs.Stands.{Turns}
-use Rattle.rules.specs.Calls.{Reset, Yield, below0, step}
+use borrow.Author.Tests.{le-ltb, lt-ltb}
+use Rattle.lists.specs.Lists.{if_then_else_}
+use Rattle.rules.specs.Answers.{refused}
+use Rattle.rules.specs.Calls.{Call, Reset, Yield, step}
 use Rattle.rules.specs.Enter.{callOf, isZero, numbered, spare}
-use Rattle.rules.specs.Schedule.{reschedule}
-use Rattle.rules.specs.declared.Answer.{Answer}
-use Rattle.rules.specs.declared.Answer.the-variants.{Done, Refused}
-use Rattle.rules.proofs.Numbers.{number-spare, number-unknown}
-use Rattle.kernel.specs.Meets.{Meets}
-use Rattle.kernel.proofs.CallLaws.{alike, does, refuses}
+use Rattle.tables.specs.declared.Tables.{Tables}
+use Rattle.kernel.specs.Steps.{Leads}
+use Rattle.kernel.specs.declared.step.Step.{Step}
+use Rattle.kernel.specs.declared.step.Step.the-variants.{Refused}
+use Rattle.rules.proofs.Numbers.{number-reset, number-unknown}
+use Rattle.kernel.proofs.CallLaws.{alike, refuses}
 
-pub reset-3 : (a b : ℤ) (bs : List ℕ) → below0 b ≡ true → Meets (λ t. step t (Reset a b)) bs bs (Refused 3)
-unfolding step
-reset-3 a b bs h = refuses (λ t. step t (Reset a b)) 3 bs (λ t st S. rw h refl)
+-- number k is this call, of the first argument alone
+abbrev pub Unary : ℕ → (ℤ → Call) → Type 0
+Unary k call = ((ltb k 1 || ltb 11 k) ≡ false) × (eqb k 5 ≡ false) × (eqb k 10 ≡ false) × ((a b : ℤ) → callOf k a b ≡ call a)
 
-pub yield-done : (a b : List ℕ) → Turns reschedule a b → Meets (λ t. step t Yield) a b (Done (pos 1))
-unfolding step Turns
-yield-done a b run = does (λ t. step t Yield) (pos 1) a b (λ t st S. (reschedule t, refl, run t st))
+first-alone : (k : ℕ) (call : ℤ → Call) → Unary k call → (t : Tables) (a b : ℤ) → numbered t k a b ≡ (if isZero b then step t (call a) else refused 14 t)
+unfolding numbered
+first-alone k call u t a b = go (ltb k 1 || ltb 11 k) (spare k a b) (isZero b) (callOf k a b) (u .0) (rw (u .1, u .2) (second (isZero b) (isZero a))) (u .3 a b)
+  where
+    second : (y x : Bool) → ((not y && true) || (not x && false)) ≡ not y
+    second true true = refl
+    second true false = refl
+    second false x = refl
 
--- An argument that the call doesn't use
+    go : (unknown spares y : Bool) (q : Call) → unknown ≡ false → spares ≡ not y → q ≡ call a → (if unknown then refused 13 t else if spares then refused 14 t else step t q) ≡ (if y then step t (call a) else refused 14 t)
+    go unknown spares true q e f g = rw (e, f, g) refl
+    go unknown spares false q e f g = rw (e, f) refl
 
-module _ (n : ℕ) (a b : ℤ) where
-  pub spare-reset : n ≡ 5 → false ≡ spare n a b
-  spare-reset e = rw e (sym (ap (λ (x : Bool). x || (not (isZero a) && eqb 5 10)) (and-false (not (isZero b))) ∙ and-false (not (isZero a))))
+no-argument : (t : Tables) (a b : ℤ) → numbered t 10 a b ≡ (if isZero a && isZero b then step t Yield else refused 14 t)
+unfolding numbered
+no-argument t a b = go (isZero a) (isZero b)
+  where
+    go : (x y : Bool) → (if (not y && true) || (not x && true) then refused 14 t else step t Yield) ≡ (if x && y then step t Yield else refused 14 t)
+    go true true = refl
+    go true false = refl
+    go false true = refl
+    go false false = refl
 
-  pub spare-yield : (x y : Bool) → n ≡ 10 → x ≡ isZero a → y ≡ isZero b → x ≡ true → not y ≡ spare n a b
-  spare-yield x y e p q h =
-      let z : isZero a ≡ true = sym p ∙ h in
-      rw (e, z, q) (go (isZero b))
-    where
-      go : (c : Bool) → not c ≡ ((not c && true) || false)
-      go true = refl
-      go false = refl
+-- arguments that were passed on are read back from their bits
+module _ (n : ℕ) (a b : ℤ) (fa : SFits w32 a) (fb : SFits w32 b) (x : List ℕ) where
+  abbrev a′ : ℤ
+  a′ = toZ w32 (ofZ w32 a)
 
-  pub spare-yield-first : (x : Bool) → n ≡ 10 → x ≡ isZero a → x ≡ false → true ≡ spare n a b
-  spare-yield-first x e p h =
-      let z : isZero a ≡ false = sym p ∙ h in
-      rw (e, z) (go (isZero b))
-    where
-      go : (c : Bool) → true ≡ ((not c && true) || true)
-      go true = refl
-      go false = refl
+  abbrev b′ : ℤ
+  b′ = toZ w32 (ofZ w32 b)
 
-  pub spare-other : (y : Bool) → (n ≡ 5 → ⊥) → (n ≡ 10 → ⊥) → y ≡ isZero b → not y ≡ spare n a b
-  spare-other y p q e = rw (ne-eqb n 5 p, ne-eqb n 10 q, e) (go (isZero b) (isZero a))
-    where
-      go : (c d : Bool) → not c ≡ ((not c && true) || (not d && false))
-      go true true = refl
-      go true false = refl
-      go false d = refl
+  zero : (z : ℤ) → SFits w32 z → (u v : Bool) → u ≡ isZero (toZ w32 (ofZ w32 z)) → u ≡ v → isZero z ≡ v
+  zero z f u v e h = ap isZero (sym (toZ-ofZ w32 z f)) ∙ sym e ∙ h
 
--- Before the call's own checks
+  module _ (k : ℕ) (call : ℤ → Call) (w : Unary k call) (is : n ≡ k) (u : Bool) (e : u ≡ isZero b′) where
+    pub unary-goes : u ≡ true → (y : List ℕ) (r : Step) → Leads (λ t. step t (call a′)) x y r → Leads (λ t. numbered t n a b) x y r
+    unary-goes h y r m =
+        alike (λ t. numbered t n a b) (λ t. step t (call a)) x y r (λ t st. rw is (first-alone k call w t a b ∙ rw (zero b fb u true e h) refl))
+        (subst (λ (z : ℤ). Leads (λ t. step t (call z)) x y r) (toZ-ofZ w32 a fa) m)
+
+    pub unary-14 : u ≡ false → Leads (λ t. numbered t n a b) x x (Refused 14)
+    unary-14 h = refuses (λ t. numbered t n a b) 14 x (λ t st S. rw is (first-alone k call w t a b ∙ rw (zero b fb u false e h) refl))
+
+  pub reset-goes : n ≡ 5 → (y : List ℕ) (r : Step) → Leads (λ t. step t (Reset a′ b′)) x y r → Leads (λ t. numbered t n a b) x y r
+  reset-goes is y r m =
+      alike (λ t. numbered t n a b) (λ t. step t (Reset a b)) x y r (λ t st. rw is (number-reset t a b))
+      (subst (λ (z : ℤ). Leads (λ t. step t (Reset a z)) x y r) (toZ-ofZ w32 b fb) (subst (λ (z : ℤ). Leads (λ t. step t (Reset z b′)) x y r) (toZ-ofZ w32 a fa) m))
+
+  module _ (is : n ≡ 10) (u v : Bool) (ea : u ≡ isZero a′) (eb : v ≡ isZero b′) where
+    none : (k : Bool) → (u && v) ≡ k → (isZero a && isZero b) ≡ k
+    none k h = rw (zero a fa u u ea refl, zero b fb v v eb refl) h
+
+    pub yield-goes : (u && v) ≡ true → (y : List ℕ) (r : Step) → Leads (λ t. step t Yield) x y r → Leads (λ t. numbered t n a b) x y r
+    yield-goes h y r = alike (λ t. numbered t n a b) (λ t. step t Yield) x y r (λ t st. rw is (no-argument t a b ∙ rw (none true h) refl))
+
+    pub yield-14 : (u && v) ≡ false → Leads (λ t. numbered t n a b) x x (Refused 14)
+    yield-14 h = refuses (λ t. numbered t n a b) 14 x (λ t st S. rw is (no-argument t a b ∙ rw (none false h) refl))
+
+-- 01 to 0b have their calls; the others are unknown
 
 module _ (n : ℕ) (a b : ℤ) (bs : List ℕ) where
-  pub low-13 : n < 1 → Meets (λ t. numbered t n a b) bs bs (Refused 13)
-  low-13 h = refuses (λ t. numbered t n a b) 13 bs (λ t st S. number-unknown t a b n (rw (lt-ltb n 1 h) refl))
+  unknown : (ltb n 1 || ltb 11 n) ≡ true → Leads (λ t. numbered t n a b) bs bs (Refused 13)
+  unknown h = refuses (λ t. numbered t n a b) 13 bs (λ t st S. number-unknown t a b n h)
 
-  pub high-13 : 1 ≤ n → 11 < n → Meets (λ t. numbered t n a b) bs bs (Refused 13)
-  high-13 k h = refuses (λ t. numbered t n a b) 13 bs (λ t st S. number-unknown t a b n (rw (le-ltb n 1 k, lt-ltb 11 n h) refl))
+  pub low-13 : n < 6 → (n ≡ 1 → ⊥) → (n ≡ 2 → ⊥) → (n ≡ 3 → ⊥) → (n ≡ 4 → ⊥) → (n ≡ 5 → ⊥) → Leads (λ t. numbered t n a b) bs bs (Refused 13)
+  low-13 h n1 n2 n3 n4 n5 = unknown (rw (lt-ltb n 1 (omega arith)) refl)
 
--- an argument that was passed on is read back from its bits
-module _ (n : ℕ) (a b : ℤ) (fa : SFits w32 a) (fb : SFits w32 b) (low : 1 ≤ n) (high : n ≤ 11) where
-  known : (ltb n 1 || ltb 11 n) ≡ false
-  known = rw (le-ltb n 1 low, le-ltb 11 n high) refl
+  pub high-13 : 6 ≤ n → (n ≡ 6 → ⊥) → (n ≡ 7 → ⊥) → (n ≡ 8 → ⊥) → (n ≡ 9 → ⊥) → (n ≡ 10 → ⊥) → (n ≡ 11 → ⊥) → Leads (λ t. numbered t n a b) bs bs (Refused 13)
+  high-13 h n6 n7 n8 n9 n10 n11 = unknown (rw (le-ltb n 1 (omega arith), lt-ltb 11 n (omega arith)) refl)
 
-  spared : (x : Bool) → spare n (toZ w32 (ofZ w32 a)) (toZ w32 (ofZ w32 b)) ≡ x → spare n a b ≡ x
-  spared x e = ap (λ (y : ℤ). spare n y b) (sym (toZ-ofZ w32 a fa)) ∙ ap (spare n (toZ w32 (ofZ w32 a))) (sym (toZ-ofZ w32 b fb)) ∙ e
-
-  pub spare-14 : (bs : List ℕ) → spare n (toZ w32 (ofZ w32 a)) (toZ w32 (ofZ w32 b)) ≡ true → Meets (λ t. numbered t n a b) bs bs (Refused 14)
-  spare-14 bs e = refuses (λ t. numbered t n a b) 14 bs (λ t st S. number-spare t a b n known (spared true e))
-
-  -- the call with this number
-  pub entered : (k : ℕ) → n ≡ k → spare n (toZ w32 (ofZ w32 a)) (toZ w32 (ofZ w32 b)) ≡ false → (x y : List ℕ) (r : Answer) → Meets (λ t. step t (callOf k (toZ w32 (ofZ w32 a)) (toZ w32 (ofZ w32 b)))) x y r → Meets (λ t. numbered t n a b) x y r
-  unfolding numbered
-  entered k is e x y r m =
-      alike (λ t. numbered t n a b) (λ t. step t (callOf k a b)) x y r (λ t st S. rw (known, spared false e, is) refl)
-      (subst (λ (z : ℤ). Meets (λ t. step t (callOf k a z)) x y r) (toZ-ofZ w32 b fb) (subst (λ (z : ℤ). Meets (λ t. step t (callOf k z (toZ w32 (ofZ w32 b)))) x y r) (toZ-ofZ w32 a fa) m))
-
--- none of the numbers 1 to 10
-pub eleven : (n : ℕ) → 1 ≤ n → n ≤ 11 → (n ≡ 1 → ⊥) → (n ≡ 2 → ⊥) → (n ≡ 3 → ⊥) → (n ≡ 4 → ⊥) → (n ≡ 5 → ⊥) → (n ≡ 6 → ⊥) → (n ≡ 7 → ⊥) → (n ≡ 8 → ⊥) → (n ≡ 9 → ⊥) → (n ≡ 10 → ⊥) → n ≡ 11
-eleven n low high n1 n2 n3 n4 n5 n6 n7 n8 n9 n10 = over n (above n low n1 n2 n3 n4 n5) high n6 n7 n8 n9 n10
-  where
-    above : (m : ℕ) → 1 ≤ m → (m ≡ 1 → ⊥) → (m ≡ 2 → ⊥) → (m ≡ 3 → ⊥) → (m ≡ 4 → ⊥) → (m ≡ 5 → ⊥) → 6 ≤ m
-    above m h m1 m2 m3 m4 m5 = omega arith
-
-    over : (m : ℕ) → 6 ≤ m → m ≤ 11 → (m ≡ 6 → ⊥) → (m ≡ 7 → ⊥) → (m ≡ 8 → ⊥) → (m ≡ 9 → ⊥) → (m ≡ 10 → ⊥) → m ≡ 11
-    over m h k m6 m7 m8 m9 m10 = omega arith
+-- a call handed on with its arguments
+pub handed-on : (n : ℕ) (a b : ℤ) → SFits w32 a → SFits w32 b → (x y : List ℕ) (r : Step) → Leads (λ t. numbered t n (toZ w32 (ofZ w32 a)) (toZ w32 (ofZ w32 b))) x y r → Leads (λ t. numbered t n a b) x y r
+handed-on n a b fa fb x y r m = rw (toZ-ofZ w32 a fa, toZ-ofZ w32 b fb) at m

@@ -1,4 +1,5 @@
 pub mod TargetLaws
+pub mod RunningLaws
 pub mod CallLaws
 pub mod WaitSignalLaws
 pub mod ReleaseLaws

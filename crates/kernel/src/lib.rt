@@ -9,6 +9,7 @@ pub mod release;
 pub mod reset;
 pub mod resume;
 pub mod signal;
+pub mod step;
 pub mod suspend;
 pub mod target;
 pub mod wait;

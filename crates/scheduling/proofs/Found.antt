@@ -75,15 +75,15 @@ line-ready t = same-line t (byByte 2) isReady same
     same Suspended = refl
     same (Waiting q) = wait-byte q 2 (omega arith)
 
+pub current-byte : (s : State) → byByte 1 s ≡ isCurrent s
+current-byte Free = refl
+current-byte Current = refl
+current-byte Ready = refl
+current-byte Suspended = refl
+current-byte (Waiting q) = wait-byte q 1 (omega arith)
+
 pub line-current : (t : Tables) → line t (byByte 1) ≡ currents t
-line-current t = same-line t (byByte 1) isCurrent same
-  where
-    same : (s : State) → byByte 1 s ≡ isCurrent s
-    same Free = refl
-    same Current = refl
-    same Ready = refl
-    same Suspended = refl
-    same (Waiting q) = wait-byte q 1 (omega arith)
+line-current t = same-line t (byByte 1) isCurrent current-byte
 
 pub line-queue : (t : Tables) (s : ℕ) → s < semaphoreLimit → line t (byByte (4 + s)) ≡ queue t s
 line-queue t s h = same-line t (byByte (4 + s)) (waitsOn s) same

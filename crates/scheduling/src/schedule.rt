@@ -11,10 +11,10 @@ ghost use mathlib.Core.Path.{_≡_};
 ghost use Prim.Native.Nat.{_<_};
 ghost use lib.ListN.{length};
 ghost use Rattle.tables.specs.Limits.{processLimit, semaphoreLimit};
-ghost use Rattle.tables.specs.Readers.{readyList};
 ghost use Rattle.layout.specs.Offsets.{size};
 ghost use Rattle.layout.specs.Stands.{Turns};
-ghost use Rattle.rules.specs.Schedule.{makeReady, makeWait, startFirst, reschedule as rescheduled};
+ghost use Rattle.rules.specs.Schedule.{makeReady, makeWait};
+ghost use Rattle.scheduling.specs.Running.{Reschedules};
 
 // Behind every ready process whose priority is equal or higher.
 pub fn make_ready(bytes: &mut [u8], p: u8)
@@ -35,35 +35,25 @@ pub fn make_wait(bytes: &mut [u8], p: u8, s: u8)
     put_state(bytes, p, State::Waiting(s));
 }
 
-fn start_first(bytes: &mut [u8])
+// To reschedule. `c` ran, and nobody else is current; who runs then is told.
+pub fn reschedule(bytes: &mut [u8], c: u8) -> u8
     requires { ⌜ length (now bytes) ≡ size ⌝ }
-    ensures { λ _. ⌜ Turns (λ t. startFirst t (readyList t)) (now (bytes .entry)) (now (bytes .exit)) ⌝ }
+    ensures { λ r. ⌜ Reschedules c (now (bytes .entry)) (now (bytes .exit)) r ⌝ }
 {
     let f = find(bytes, READY);
     if f == NOBODY {
-        return;
+        return c;
     }
-    put_state(bytes, f, State::Current);
-}
-
-pub fn reschedule(bytes: &mut [u8])
-    requires { ⌜ length (now bytes) ≡ size ⌝ }
-    ensures { λ _. ⌜ Turns rescheduled (now (bytes .entry)) (now (bytes .exit)) ⌝ }
-{
-    let f = find(bytes, READY);
-    if f == NOBODY {
-        return;
-    }
-    let c = find(bytes, CURRENT);
-    if c == NOBODY {
+    if bytes[c as usize] != CURRENT {
         put_state(bytes, f, State::Current);
-        return;
+        return f;
     }
     let x = process(bytes, c);
     let y = process(bytes, f);
     if y.priority < x.priority {
-        return;
+        return c;
     }
     make_ready(bytes, c);
-    start_first(bytes);
+    put_state(bytes, f, State::Current);
+    f
 }

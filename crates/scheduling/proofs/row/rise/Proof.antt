@@ -17,32 +17,11 @@ abbrev μ-loop : tie.MeasureT-loop
 loop-holds : tie.Need-loop-holds Inv-loop μ-loop
 loop-holds c = (search needs, search needs, rise-start _ _ _)
 
-place-requires : tie.Need-place-requires Inv-loop μ-loop
-place-requires c κs = search needs
-
-put-place-requires : tie.Need-put-place-requires Inv-loop μ-loop
-put-place-requires c κs = search needs
-
-same-length : tie.Need-same-length Inv-loop μ-loop
-same-length c = search needs
-
 returns : tie.Need-returns Inv-loop μ-loop
 returns c = rise-stop _ _ _ _ _ _ (c .before .before .before .before .before .before .before .before .loop .inv .2) _ (c .before .before .before .put-place .ensures) (search needs) _ (c .before .before .before .before .before .place .ensures) (c .if1 .taken)
 
-add-j : tie.Need-add-j Inv-loop μ-loop
-add-j c = search needs
-
-loop-less : tie.Need-loop-less Inv-loop μ-loop
-loop-less c = search needs
-
 loop-again : tie.Need-loop-again Inv-loop μ-loop
 loop-again c = (search needs, search needs, rise-on _ _ _ _ _ _ (c .before .before .before .before .before .before .before .before .loop .inv .2) _ (c .before .before .before .put-place .ensures) (search needs) _ (c .before .before .before .before .before .place .ensures) (c .if1 .left))
-
-put-place-requires-2 : tie.Need-put-place-requires-2 Inv-loop μ-loop
-put-place-requires-2 c κs = search needs
-
-same-length-2 : tie.Need-same-length-2 Inv-loop μ-loop
-same-length-2 c = search needs
 
 returns-2 : tie.Need-returns-2 Inv-loop μ-loop
 returns-2 c = rise-end _ _ _ _ _ _ (c .before .before .before .before .before .loop .inv .2) _ (search needs) (search needs) (c .before .before .put-place2 .ensures)
@@ -54,13 +33,13 @@ rise-spec =
     Inv-loop
     μ-loop
     loop-holds
-    place-requires
-    put-place-requires
-    same-length
+    (λ c κs. search needs)
+    (λ c κs. search needs)
+    (λ c. search needs)
     returns
-    add-j
-    loop-less
+    (λ c. search needs)
+    (λ c. search needs)
     loop-again
-    put-place-requires-2
-    same-length-2
+    (λ c κs. search needs)
+    (λ c. search needs)
     returns-2)

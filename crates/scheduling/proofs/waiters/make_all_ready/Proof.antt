@@ -17,23 +17,8 @@ abbrev μ-loop : tie.MeasureT-loop
 loop-holds : tie.Need-loop-holds Inv-loop μ-loop
 loop-holds c = (search needs, search needs, search needs, free-start _ _)
 
-array-read-ready-if : tie.Need-array-read-ready-if Inv-loop μ-loop
-array-read-ready-if c = search needs
-
-ready-if-requires : tie.Need-ready-if-requires Inv-loop μ-loop
-ready-if-requires c κs = search needs
-
-add-i : tie.Need-add-i Inv-loop μ-loop
-add-i c = search needs
-
-loop-less : tie.Need-loop-less Inv-loop μ-loop
-loop-less c = search needs
-
 loop-again : tie.Need-loop-again Inv-loop μ-loop
 loop-again c = (search needs, search needs, search needs, free-on _ _ _ _ _ (search needs) (c .before .before .before .before .before .loop .inv .3) (c .before .before .ready-if .ensures))
-
-same-length : tie.Need-same-length Inv-loop μ-loop
-same-length c = search needs
 
 returns : tie.Need-returns Inv-loop μ-loop
 returns c = free-end _ _ _ _ (search needs) (c .before .loop .inv .3)
@@ -45,10 +30,10 @@ make-all-ready-spec =
     Inv-loop
     μ-loop
     loop-holds
-    array-read-ready-if
-    ready-if-requires
-    add-i
-    loop-less
+    (λ c. search needs)
+    (λ c κs. search needs)
+    (λ c. search needs)
+    (λ c. search needs)
     loop-again
-    same-length
+    (λ c. search needs)
     returns)

@@ -16,18 +16,6 @@ abbrev μ-loop : tie.MeasureT-loop
 loop-holds : tie.Need-loop-holds Inv-loop μ-loop
 loop-holds c = (search needs, search needs, pick-start _ _ _)
 
-mark-requires : tie.Need-mark-requires Inv-loop μ-loop
-mark-requires c κs = search needs
-
-array-write-ps : tie.Need-array-write-ps Inv-loop μ-loop
-array-write-ps c = search needs
-
-add-i : tie.Need-add-i Inv-loop μ-loop
-add-i c = search needs
-
-loop-less : tie.Need-loop-less Inv-loop μ-loop
-loop-less c = search needs
-
 loop-again : tie.Need-loop-again Inv-loop μ-loop
 loop-again c = (search needs, search needs, pick-on _ _ _ _ _ (search needs) (search needs) (c .mark .ensures) (c .before .before .loop .inv .2))
 
@@ -41,9 +29,9 @@ picked-spec =
     Inv-loop
     μ-loop
     loop-holds
-    mark-requires
-    array-write-ps
-    add-i
-    loop-less
+    (λ c κs. search needs)
+    (λ c. search needs)
+    (λ c. search needs)
+    (λ c. search needs)
     loop-again
     returns)
