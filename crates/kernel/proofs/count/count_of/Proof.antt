@@ -10,7 +10,7 @@ use Rattle.layout.proofs.Compose.{told-as}
 use Rattle.kernel.proofs.count.count_of.Tie as tie
 
 count-requires : tie.Need-count-requires
-count-requires c κs = (search needs, (chosen _ _ _ _ (c .before .before .before .before .before .fits .a) (c .before .target2 .given .1) (c .before .before .before .used-semaphore .ensures)) .1)
+count-requires c κs = let below = (chosen _ _ _ _ (c .before .before .before .before .before .fits .a) (c .before .target2 .given .1) (c .before .before .before .used-semaphore .ensures)) .1 in search needs
 
 returns : tie.Need-returns
 returns c = semaphore-refused (c .before .before .before .before .before .args .a) _ _ (chosen _ _ _ _ (c .before .before .before .before .before .fits .a) (c .before .target .given .1) (c .before .before .before .used-semaphore .ensures)) (Count (c .before .before .before .before .before .args .a)) (λ t. refl)
