@@ -16,7 +16,7 @@ struct Turn {
     more: bool,
 }
 
-// The end of the input: a last line without a newline is answered.
+// The end of the input, or of what can be read of it: a last line without a newline is answered.
 fn serve_last(tables: &mut [u8], part: Part) {
     let mut out = [0u8; ROOM];
     let fed = finish(tables, part, &mut out);
@@ -28,10 +28,7 @@ fn serve_last(tables: &mut [u8], part: Part) {
 fn serve_some(tables: &mut [u8], part: Part) -> Turn {
     let mut chunk = [0u8; CHUNK];
     let got = libc::read(STDIN_FILENO, &mut chunk);
-    if got < 0 {
-        return Turn { part, more: false };
-    }
-    if got == 0 {
+    if got <= 0 {
         serve_last(tables, part);
         return Turn { part, more: false };
     }

@@ -7,14 +7,17 @@ ghost use mir.Syntax.{w32};
 ghost use mir.Val.{ofZ};
 ghost use Rattle.cottonsedge.specs.Entries.{packed};
 
-fn fields(refusal: u8, value: i32, process: u8) -> u64
+// The running process that is told of tables that aren't sound.
+pub const UNKNOWN: u8 = 255;
+
+fn fields(refusal: u8, value: i32, process: u16) -> u64
     ensures { λ r. ⌜ r ≡ refusal * 1099511627776 + ofZ w32 value * 256 + process ⌝ }
 {
     let bits = unsigned(value);
     (refusal as u64) * 1099511627776 + (bits as u64) * 256 + (process as u64)
 }
 
-pub fn pack(answer: Answer, process: u8) -> u64
+pub fn pack(answer: Answer, process: u16) -> u64
     ensures { λ r. ⌜ r ≡ packed answer process ⌝ }
 {
     match answer {

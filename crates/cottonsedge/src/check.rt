@@ -1,4 +1,5 @@
 // Whether lent bytes are sound tables, and who runs in them.
+use crate::answer::UNKNOWN;
 use soundness::check::is_sound;
 use soundness::running;
 ghost use mathlib.Core.Path.{_≡_};
@@ -15,12 +16,12 @@ pub extern "C" fn cottonsedge_check(tables: &[u8]) -> u8
     15
 }
 
-// The current process of sound tables; 255 of others.
+// The current process of sound tables; `UNKNOWN` of others.
 pub fn current(tables: &[u8]) -> u8
     ensures { λ r. ⌜ r ≡ currentByte (now (tables .entry)) ⌝ }
 {
     if !is_sound(tables) {
-        return 255;
+        return UNKNOWN;
     }
     running::current(tables) as u8
 }

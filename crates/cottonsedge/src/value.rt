@@ -1,4 +1,5 @@
 // One call on typed tables, handed over and handed back: for callers in Rattle.
+use crate::answer::UNKNOWN;
 use kernel::enter;
 use layout::decode::decode;
 use layout::encode::encode;
@@ -23,7 +24,7 @@ pub fn call(tables: Tables, number: u8, a: i32, b: i32) -> Reply
         };
         return Reply {
             outcome: refused,
-            running: 255,
+            running: UNKNOWN,
         };
     }
     let told = enter::call(&mut bytes, number, a, b);

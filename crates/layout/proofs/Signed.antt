@@ -60,7 +60,7 @@ pub high' : (z : ℤ) → SFits w32 z → ltZ (toZ w32 (ofZ w32 z)) (pos 0) ≡ 
 high' z f h = let e = toZ-ofZ w32 z f in rw e (high z f (rw e at h))
 
 -- what `signed` needs
-module _ (u : ℕ) (f : u < 4294967296) (h : 2147483648 ≤ u) where
+module _ (u : ℕ) (f : u < 4294967296) (h : 2147483647 < u) where
   small : toZ w32 (4294967295 - u) ≡ pos (4294967295 - u)
   small = toZ-pos w32 (4294967295 - u) (omega arith)
 

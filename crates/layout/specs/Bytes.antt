@@ -18,13 +18,21 @@ use Rattle.tables.specs.Limits.{processLimit, semaphoreLimit}
 use Rattle.tables.specs.Readers.{stateOf, priorityOf, isUsed, countOf}
 use Rattle.layout.specs.Offsets.{statesAt, prioritiesAt, usedAt, countsAt, orderAt, nextSemaphoreAt, nextProcessAt, size}
 
--- the byte of a state: 0 free, 1 current, 2 ready, 3 suspended, 4 + s waiting on s; 255 where s is no semaphore's number
+-- the byte of waiting on semaphore 0
+abbrev pub waitingFrom : ℕ
+waitingFrom = 4
+
+-- the byte of a state that no table has: waiting on what is no semaphore's number
+abbrev pub noState : ℕ
+noState = 255
+
+-- the byte of a state: 0 free, 1 current, 2 ready, 3 suspended, then waiting on 0, 1, 2 and so on
 abbrev pub stateByte : State → ℕ
 stateByte Free = 0
 stateByte Current = 1
 stateByte Ready = 2
 stateByte Suspended = 3
-stateByte (Waiting s) = if ltb s semaphoreLimit then 4 + s else 255
+stateByte (Waiting s) = if ltb s semaphoreLimit then waitingFrom + s else noState
 
 abbrev pub byteState : ℕ → State
 byteState b =
@@ -32,7 +40,7 @@ byteState b =
     if eqb b 1 then Current else
     if eqb b 2 then Ready else
     if eqb b 3 then Suspended else
-    Waiting (b - 4)
+    Waiting (b - waitingFrom)
 
 -- the byte of a used flag
 abbrev pub usedByte : Bool → ℕ
@@ -92,7 +100,7 @@ fromBytes bs =
 
 -- each state byte names a state, each used flag is 0 or 1, each place of the row names a process, and nothing is missing or over
 abbrev pub stateNamed : List ℕ → ℕ → Bool
-stateNamed bs p = ltb (getD bs (statesAt + p) 0) (4 + semaphoreLimit)
+stateNamed bs p = ltb (getD bs (statesAt + p) 0) (waitingFrom + semaphoreLimit)
 
 abbrev pub flagPlain : List ℕ → ℕ → Bool
 flagPlain bs s = ltb (getD bs (usedAt + s) 0) 2

@@ -15,6 +15,9 @@ pub const SUSPENDED: u8 = 3;
 
 pub const WAITING: u8 = 4;
 
+// The byte of a state that no table has: waiting on a number past the semaphores.
+const NO_STATE: u8 = 255;
+
 pub fn state_byte(state: State) -> u8
     ensures { λ r. ⌜ r ≡ stateByte state ⌝ }
 {
@@ -27,7 +30,7 @@ pub fn state_byte(state: State) -> u8
             if s < Tables::SEMAPHORES as u8 {
                 return WAITING + s;
             }
-            255
+            NO_STATE
         }
     }
 }

@@ -4,6 +4,9 @@ ghost use mir.Syntax.{w32};
 ghost use mir.Val.{ofZ, toZ};
 ghost use Rattle.layout.specs.Bytes.{of4};
 
+// The largest word that a signed number has.
+const LARGEST: u32 = i32::MAX as u32;
+
 pub fn word(a: u8, b: u8, c: u8, d: u8) -> u32
     ensures { λ r. ⌜ r ≡ of4 a b c d ⌝ }
 {
@@ -13,10 +16,10 @@ pub fn word(a: u8, b: u8, c: u8, d: u8) -> u32
 pub fn signed(u: u32) -> i32
     ensures { λ r. ⌜ r ≡ toZ w32 u ⌝ }
 {
-    if u < 2147483648 {
+    if u <= LARGEST {
         u as i32
     } else {
-        -1 - ((4294967295 - u) as i32)
+        -1 - ((u32::MAX - u) as i32)
     }
 }
 
@@ -24,7 +27,7 @@ pub fn unsigned(c: i32) -> u32
     ensures { λ r. ⌜ r ≡ ofZ w32 c ⌝ }
 {
     if c < 0 {
-        4294967295 - ((-1 - c) as u32)
+        u32::MAX - ((-1 - c) as u32)
     } else {
         c as u32
     }

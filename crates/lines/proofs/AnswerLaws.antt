@@ -6,14 +6,14 @@ use mathlib.Core.List.{List, _∷_, _++_}
 use lib.ListN.{length, drop, set, length-append, length-set}
 use lib.Seq.{drop-cons, drop-set-lt, getD-set-same, append-snoc}
 use Rattle.lines.specs.Hex.{letterOf, written}
-use Rattle.lines.specs.Answers.{newline, textOf, over}
+use Rattle.lines.specs.Answers.{answerLength, newline, textOf, over}
 
 pub written-length : (n a : ℕ) → length (written n a) ≡ n
 unfolding written
 written-length zero a = refl
 written-length (suc n) a = simp length-append (rw (written-length n (a / 16)) (omega arith))
 
-pub text-length : (a : ℕ) → length (textOf a) ≡ 13
+pub text-length : (a : ℕ) → length (textOf a) ≡ answerLength
 unfolding textOf
 text-length a = simp length-append (rw (written-length 12 a))
 

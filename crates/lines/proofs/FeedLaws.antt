@@ -13,7 +13,7 @@ use Rattle.lists.specs.Lists.{isEmpty}
 use Rattle.lists.proofs.Bools.{below?}
 use Rattle.lines.specs.declared.feed.Part.{Part}
 use Rattle.lines.specs.Line.{lineOf}
-use Rattle.lines.specs.Answers.{newline, answerTo, tablesAfter, textOf, over}
+use Rattle.lines.specs.Answers.{answerLength, newline, answerTo, tablesAfter, textOf, over}
 use Rattle.lines.specs.Feed.{Held, heldIn, kept, heldNext, heldAfter, writtenNext, writtenOver, ending, taken, Serves}
 use Rattle.lines.proofs.AnswerLaws.{text-length}
 
@@ -38,12 +38,12 @@ pub least-long : (n : ℕ) (xs : List ℕ) → length (take (min n (length xs)) 
 least-long n xs = length-take (min n (length xs)) xs ∙ min-eq-left (min-le-right n (length xs))
 
 -- with room for an answer to each character, all of them are taken
-pub taken-all : (cs out : List ℕ) → 13 * length cs ≤ length out → taken cs out ≡ cs
+pub taken-all : (cs out : List ℕ) → answerLength * length cs ≤ length out → taken cs out ≡ cs
 unfolding taken
 taken-all cs out h =
-    let few : length cs * 13 ≤ length out = omega arith in
-    let enough : length cs ≤ length out / 13 = le-div-iff-mul-le {k = 13} (omega arith) .1 few in
-    take-all (length out / 13) cs enough
+    let few : length cs * answerLength ≤ length out = omega arith in
+    let enough : length cs ≤ length out / answerLength = le-div-iff-mul-le {k = answerLength} (omega arith) .1 few in
+    take-all (length out / answerLength) cs enough
 
 pub ending-is : (bytes : List ℕ) (count : ℕ) → 0 < length bytes → take (min count 1) (newline ∷ []) ≡ ending (take count bytes)
 unfolding ending isEmpty
@@ -59,7 +59,7 @@ module _ (h : Held) where
   written-one c = append-nil (writtenNext h c)
 
   module _ (tables : List ℕ) (part : Part) (before after : List ℕ) where
-    pub serves-newline : tables ≡ tablesAfter (h .tables) (lineOf (h .line)) → heldIn part ≡ [] → after ≡ over (textOf (answerTo (h .tables) (lineOf (h .line)))) before → Serves h (newline ∷ []) tables (record { part = part; used = 1; written = 13 }) before after
+    pub serves-newline : tables ≡ tablesAfter (h .tables) (lineOf (h .line)) → heldIn part ≡ [] → after ≡ over (textOf (answerTo (h .tables) (lineOf (h .line)))) before → Serves h (newline ∷ []) tables (record { part = part; used = 1; written = answerLength }) before after
     unfolding heldAfter heldNext writtenNext
     serves-newline t l o =
         record { held-is = rw (t, l) refl; used-is = refl; written-is = rw (written-one newline) (sym (text-length _)); out-is = rw (written-one newline) o }

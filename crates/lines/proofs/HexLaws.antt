@@ -13,6 +13,7 @@ use borrow.Author.Tests.{leb-true, le-leb, ltb-true, lt-ltb, le-ltb}
 use Rattle.lists.proofs.Bools.{both, split}
 use Rattle.lines.specs.Hex.{between, digitOf, readOn, fieldOf}
 use Rattle.lines.specs.Line.{Below}
+use Rattle.lines.specs.declared.hex.Field.{Field}
 use Rattle.lines.specs.declared.hex.Field.the-variants.{Value, Wrong}
 
 pub between-low : (low high c : ℕ) → between low high c ≡ true → low ≤ c
@@ -59,3 +60,19 @@ below-more n i (c ∷ cs) h =
 pub two-digits : (cs : List ℕ) → length cs ≡ 2 → Below 256 (fieldOf cs)
 unfolding fieldOf
 two-digits cs e = rw (le-leb (length cs) 8 (omega arith)) (let b : Below (16 ^ (0 + length cs)) (readOn 0 cs) = below-more 0 0 cs (omega arith) in rw e at b)
+
+below-wider : (f : Field) (m n : ℕ) → m ≤ n → Below m f → Below n f
+below-wider (Value v) m n h k = omega arith
+below-wider Wrong m n h k = tt
+
+-- and a field fits a word
+pub word-digits : (cs : List ℕ) → Below 4294967296 (fieldOf cs)
+unfolding fieldOf
+word-digits cs =
+    split (leb (length cs) 8)
+    (λ e.
+    let short = leb-true (length cs) 8 e in
+    let within : 0 + length cs ≤ 8 = omega arith in
+    let top : 16 ^ (0 + length cs) ≤ 16 ^ 8 = pow-le-pow-right (omega arith) within in
+    rw e (below-wider (readOn 0 cs) (16 ^ (0 + length cs)) (16 ^ 8) top (below-more 0 0 cs (omega arith))))
+    (λ e. rw e tt)

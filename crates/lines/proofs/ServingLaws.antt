@@ -12,14 +12,14 @@ use borrow.Rule.Slice.PartMut.{midOf, putMid}
 use Rattle.lists.proofs.Bools.{split}
 use Rattle.lines.specs.declared.feed.Part.{Part}
 use Rattle.lines.specs.declared.feed.Fed.{Fed}
-use Rattle.lines.specs.Answers.{newline, over}
+use Rattle.lines.specs.Answers.{answerLength, newline, over}
 use Rattle.lines.specs.Feed.{Held, holding, heldNext, heldAfter, writtenNext, writtenOver, Serves}
 use Rattle.lines.proofs.AnswerLaws.{text-length}
 use Rattle.lines.proofs.FeedLaws.{written-one}
 
 pub record Serving (h₀ : Held) (cs out₀ : List ℕ) (h : Held) (out : List ℕ) (at i : ℕ) : Type 0 where
   pub within : i ≤ length cs
-  pub room : at ≤ 13 * i
+  pub room : at ≤ answerLength * i
   pub long : length out ≡ length out₀
   pub held : heldAfter h (drop i cs) ≡ heldAfter h₀ cs
   pub wrote : take at out ++ writtenOver h (drop i cs) ≡ writtenOver h₀ cs
@@ -54,18 +54,18 @@ module _ (out ys : List ℕ) (at : ℕ) (inside : at ≤ length out) where
   given-back : putMid at (length out - at) out ys ≡ take at out ++ ys
   given-back = rw (drop-of-length-le (drop at out) {i = length out - at} (simp length-drop (omega arith)), append-nil ys)
 
-written-small : (h : Held) (c : ℕ) → length (writtenNext h c) ≤ 13
+written-small : (h : Held) (c : ℕ) → length (writtenNext h c) ≤ answerLength
 unfolding writtenNext
 written-small h c = split (eqb c newline) (λ e. rw (e, text-length) (omega arith)) (λ e. rw e (omega arith))
 
 pub serving-start : (h : Held) (cs out : List ℕ) → Serving h cs out h out 0 0
 serving-start h cs out = record { within = omega arith; room = omega arith; long = refl; held = refl; wrote = refl; rest = refl }
 
-module _ {h₀ : Held} {cs out₀ : List ℕ} {h : Held} {out : List ℕ} {at i : ℕ} (s : Serving h₀ cs out₀ h out at i) (fits : 13 * length cs ≤ length out₀) where
-  pub space : i < length cs → at + 13 ≤ length out
+module _ {h₀ : Held} {cs out₀ : List ℕ} {h : Held} {out : List ℕ} {at i : ℕ} (s : Serving h₀ cs out₀ h out at i) (fits : answerLength * length cs ≤ length out₀) where
+  pub space : i < length cs → at + answerLength ≤ length out
   space more = omega (arith, s .room, s .long)
 
-  pub space-lent : i < length cs → 13 ≤ length (midOf at (length out - at) out)
+  pub space-lent : i < length cs → answerLength ≤ length (midOf at (length out - at) out)
   space-lent more =
       let inside : at ≤ length out = omega (arith, space more) in
       rw (lent out [] at inside, length-drop at out) (omega (arith, space more))

@@ -1,5 +1,5 @@
 -- The answer to one line, and to all lines of an input, each on the tables that the one before it left.
-use Prim.Native.Nat.{ℕ}
+use Prim.Native.Nat.{ℕ, _+_}
 use mathlib.Core.List.{List, [], _∷_, _++_}
 use lib.Dec.{eqb}
 use lib.ListN.{length, drop}
@@ -24,12 +24,16 @@ abbrev pub tablesAfter : List ℕ → Line → List ℕ
 tablesAfter tables (Request n a b) = bytesAfter tables n a b
 tablesAfter tables Wrong = tables
 
-abbrev pub answerLength : ℕ
-answerLength = 13
-
 -- two digits for the refusal, eight for the value, two for the process
+abbrev pub answerDigits : ℕ
+answerDigits = 12
+
+-- and a newline
+abbrev pub answerLength : ℕ
+answerLength = answerDigits + 1
+
 unfoldable pub textOf : ℕ → List ℕ
-textOf answer = written 12 answer ++ newline ∷ []
+textOf answer = written answerDigits answer ++ newline ∷ []
 
 -- a text over the front of a buffer
 unfoldable pub over : List ℕ → List ℕ → List ℕ

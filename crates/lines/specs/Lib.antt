@@ -3,3 +3,4 @@ pub mod Chunks
 pub mod Feed
 pub mod Hex
 pub mod Line
+pub mod Ruled

@@ -10,7 +10,7 @@ ghost use Prim.Native.Nat.{_≤_, _<_};
 ghost use lib.ListN.{length};
 ghost use Rattle.lines.specs.Hex.{letterOf};
 ghost use Rattle.lines.specs.Line.{lineOf};
-ghost use Rattle.lines.specs.Answers.{answerTo, tablesAfter, textOf, over};
+ghost use Rattle.lines.specs.Answers.{answerLength, answerTo, tablesAfter, textOf, over};
 
 const DIGITS: usize = 12;
 
@@ -37,7 +37,7 @@ fn letter(d: u8) -> u8
 
 // The answer over the front of `out`, its low digit first.
 pub fn write_answer(out: &mut [u8], answer: u64)
-    requires { ⌜ 13 ≤ length (now out) ⌝ }
+    requires { ⌜ answerLength ≤ length (now out) ⌝ }
     ensures { λ _. ⌜ now (out .exit) ≡ over (textOf answer) (now (out .entry)) ⌝ }
 {
     out[DIGITS] = b'\n';

@@ -7,7 +7,7 @@ ghost use mathlib.Core.Path.{_≡_};
 ghost use Prim.Native.Nat.{_*_, _≤_, min};
 ghost use mathlib.Core.List.{[], _∷_};
 ghost use lib.ListN.{length};
-ghost use Rattle.lines.specs.Answers.{newline};
+ghost use Rattle.lines.specs.Answers.{answerLength, newline};
 ghost use Rattle.lines.specs.Feed.{heldIn, holding, kept, ending, taken, Serves, Counts};
 
 // One character more than a right line has, so that a longer one is known.
@@ -64,7 +64,7 @@ impl Part {
 
 // The line that is held, ended, and its answer over the front of `out`.
 fn end_line(tables: &mut [u8], part: Part, out: &mut [u8]) -> Fed
-    requires { ⌜ 13 ≤ length (now out) ⌝ }
+    requires { ⌜ answerLength ≤ length (now out) ⌝ }
     ensures { λ r. ⌜ Serves (holding (now (tables .entry)) part) (newline ∷ []) (now (tables .exit)) r (now (out .entry)) (now (out .exit)) ⌝ }
 {
     let bytes = part.bytes;
@@ -80,7 +80,7 @@ fn end_line(tables: &mut [u8], part: Part, out: &mut [u8]) -> Fed
 }
 
 fn feed_one(tables: &mut [u8], part: Part, c: u8, out: &mut [u8]) -> Fed
-    requires { ⌜ 13 ≤ length (now out) ⌝ }
+    requires { ⌜ answerLength ≤ length (now out) ⌝ }
     ensures { λ r. ⌜ Serves (holding (now (tables .entry)) part) (c ∷ []) (now (tables .exit)) r (now (out .entry)) (now (out .exit)) ⌝ }
 {
     if c == b'\n' {
@@ -96,7 +96,7 @@ fn feed_one(tables: &mut [u8], part: Part, c: u8, out: &mut [u8]) -> Fed
 
 // A chunk for which `out` has room.
 fn feed_all(tables: &mut [u8], part: Part, chunk: &[u8], out: &mut [u8]) -> Fed
-    requires { ⌜ 13 * length (now chunk) ≤ length (now out) ⌝ }
+    requires { ⌜ answerLength * length (now chunk) ≤ length (now out) ⌝ }
     ensures { λ r. ⌜ Serves (holding (now (tables .entry)) part) (now (chunk .entry)) (now (tables .exit)) r (now (out .entry)) (now (out .exit)) ⌝ }
 {
     let mut held = part;

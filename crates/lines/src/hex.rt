@@ -2,6 +2,9 @@
 ghost use mathlib.Core.Path.{_≡_};
 ghost use Rattle.lines.specs.Hex.{between, digitOf, fieldOf};
 
+// The most digits that a field has.
+pub const WIDTH: usize = 8;
+
 pub enum Field {
     Value(u32),
     Wrong,
@@ -33,7 +36,7 @@ fn digit(c: u8) -> u8
 pub fn read_field(part: &[u8]) -> Field
     ensures { λ r. ⌜ r ≡ fieldOf (now (part .entry)) ⌝ }
 {
-    if 8 < part.len() {
+    if WIDTH < part.len() {
         return Field::Wrong;
     }
     let mut n: u32 = 0;

@@ -1,5 +1,5 @@
 // From the bench's input bytes to its answers: all but reading and writing.
-mod answer;
+pub mod answer;
 pub mod feed;
 pub mod hex;
 pub mod line;

@@ -1,12 +1,17 @@
 // A line of the input, without its newline, as a call.
 use crate::hex::Field;
+use crate::hex::WIDTH;
 use crate::hex::read_field;
 use layout::word::signed;
 ghost use mathlib.Core.Path.{_≡_};
 ghost use Rattle.lines.specs.Line.{Below, lineOf, requestOf};
 
-// The digits of a line: two for the call, eight for each argument.
-pub const LINE: usize = 18;
+// The digits of the call, and of a line: behind the call come two arguments.
+const CALL: usize = 2;
+
+const SECOND: usize = CALL + WIDTH;
+
+pub const LINE: usize = SECOND + WIDTH;
 
 pub enum Line {
     // The call's number and its two arguments.
@@ -35,9 +40,9 @@ pub fn read_line(line: &[u8]) -> Line
 {
     if line.len() == LINE {
         request(
-            read_field(&line[..2]),
-            read_field(&line[2..10]),
-            read_field(&line[10..LINE]),
+            read_field(&line[..CALL]),
+            read_field(&line[CALL..SECOND]),
+            read_field(&line[SECOND..LINE]),
         )
     } else {
         Line::Wrong

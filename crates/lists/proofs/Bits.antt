@@ -1,5 +1,5 @@
 -- A set of numbers as the bits of one. Assumes nothing.
-use Prim.Native.Nat.{_%_, _*_, _+_, _<_, _^_, _≤_, suc, zero, ℕ}
+use Prim.Native.Nat.{_%_, _*_, _+_, _-_, _<_, _^_, _≤_, suc, zero, ℕ}
 use native.Mathlib.Decide.{ℕ-discrete}
 use native.Mathlib.Nat.{mod-eq-of-lt, pow-le-pow-right, pow-suc, zero-mul}
 use native.Mathlib.Omega.{arith}
@@ -103,12 +103,13 @@ full (suc n) f = go (f n) (mask-lt n f) (pow-suc 2 n) (full n f)
         ∙ ih ∙ sym (and-yes (all n f))
     go false l e ih = ne-eqb (0 * 2 ^ n + mask n f + 1) (2 ^ suc n) (λ k. let z = zero-mul (2 ^ n) in omega arith) ∙ sym (and-no (all n f))
 
-pub mask-full : (f : ℕ → Bool) → eqb (mask 32 f) 4294967295 ≡ all 32 f
-mask-full f =
-    bool-iff (eqb (mask 32 f) 4294967295) (eqb (mask 32 f + 1) 4294967296)
-    (λ k. let k' = eqb-true (mask 32 f) 4294967295 k in eq-eqb (mask 32 f + 1) 4294967296 (omega arith))
-    (λ k. let k' = eqb-true (mask 32 f + 1) 4294967296 k in eq-eqb (mask 32 f) 4294967295 (omega arith))
-    ∙ full 32 f
+pub mask-full : (n : ℕ) (f : ℕ → Bool) → eqb (mask n f) (2 ^ n - 1) ≡ all n f
+mask-full n f =
+    let some = pow-pos n in
+    bool-iff (eqb (mask n f) (2 ^ n - 1)) (eqb (mask n f + 1) (2 ^ n))
+    (λ k. let k' = eqb-true (mask n f) (2 ^ n - 1) k in eq-eqb (mask n f + 1) (2 ^ n) (omega arith))
+    (λ k. let k' = eqb-true (mask n f + 1) (2 ^ n) k in eq-eqb (mask n f) (2 ^ n - 1) (omega arith))
+    ∙ full n f
 
 -- what the machine shifts
 pub shifted : (q : ℕ) → q < 32 → 1 * 2 ^ q % 4294967296 ≡ 2 ^ q

@@ -9,7 +9,7 @@ use lib.Dec.{ltb}
 use lib.ListN.{drop, drop-of-length-le, getD, length}
 use lib.Seq.{drop-cons}
 use borrow.Author.Tests.{eq-eqb, lt-ltb, ne-eqb}
-use Rattle.layout.specs.Bytes.{stateByte}
+use Rattle.layout.specs.Bytes.{noState, stateByte}
 use Rattle.layout.specs.Stands.{Stands, Tells}
 use Rattle.lists.specs.Lists.{filter, firstOr}
 use Rattle.tables.specs.Limits.{processLimit, semaphoreLimit}
@@ -59,7 +59,7 @@ module _ (b : ℕ) (bs : List ℕ) where
 -- A line by the byte of the state
 
 pub wait-byte : (q b : ℕ) → b < 4 → byByte b (Waiting q) ≡ false
-wait-byte q b h = split (ltb q semaphoreLimit) (λ e. rw e (ne-eqb (4 + q) b (λ z. omega arith))) (λ e. rw e (ne-eqb 255 b (λ z. omega arith)))
+wait-byte q b h = split (ltb q semaphoreLimit) (λ e. rw e (ne-eqb (4 + q) b (λ z. omega arith))) (λ e. rw e (ne-eqb noState b (λ z. omega arith)))
 
 same-line : (t : Tables) (f g : State → Bool) → ((s : State) → f s ≡ g s) → line t f ≡ line t g
 unfolding line

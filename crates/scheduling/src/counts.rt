@@ -6,10 +6,6 @@ ghost use Rattle.rules.specs.Calls.{below0, largest};
 ghost use Rattle.rules.specs.Enter.{isZero};
 ghost use Rattle.scheduling.specs.Counts.{raise, lower};
 
-const LARGEST: i32 = 2147483647;
-
-const SMALLEST: i32 = -2147483648;
-
 pub fn below_zero(c: i32) -> bool
     ensures { λ r. ⌜ r ≡ below0 c ⌝ }
 {
@@ -29,7 +25,7 @@ pub fn is_zero(c: i32) -> bool
 pub fn lowered(c: i32) -> i32
     ensures { λ r. ⌜ r ≡ lower c ⌝ }
 {
-    if c <= SMALLEST {
+    if c <= i32::MIN {
         return c;
     }
     c - 1
@@ -38,7 +34,7 @@ pub fn lowered(c: i32) -> i32
 pub fn raised(c: i32) -> i32
     ensures { λ r. ⌜ r ≡ raise c ⌝ }
 {
-    if LARGEST <= c {
+    if i32::MAX <= c {
         return c;
     }
     c + 1
@@ -47,7 +43,7 @@ pub fn raised(c: i32) -> i32
 pub fn is_full(c: i32) -> bool
     ensures { λ r. ⌜ r ≡ leZ largest c ⌝ }
 {
-    LARGEST <= c
+    i32::MAX <= c
 }
 
 pub fn is_spent(c: i32) -> bool

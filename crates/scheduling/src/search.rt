@@ -1,4 +1,5 @@
-// The search that begins at a cursor and goes round. A free slot and a free semaphore both have the byte 0.
+// The search that begins at a cursor and goes round. A free semaphore has the same byte as a free slot.
+use layout::state::FREE;
 ghost use mathlib.Core.Path.{_≡_};
 ghost use Prim.Native.Nat.{_+_, _-_, _<_, _≤_};
 ghost use lib.ListN.{length};
@@ -6,8 +7,6 @@ ghost use Rattle.lists.specs.Numbers.{countUp, roundFrom};
 ghost use Rattle.layout.specs.Offsets.{size};
 ghost use Rattle.rules.specs.Calls.{onePast};
 ghost use Rattle.scheduling.specs.Search.{firstFree};
-
-const FREE: u8 = 0;
 
 // The first free one from `from` on, of `limit` bytes that begin at `at`; `limit` where there is none.
 fn free_from(bytes: &[u8], at: usize, limit: usize, from: usize) -> usize

@@ -9,7 +9,10 @@ ghost use Rattle.tables.specs.Test.{onceEach};
 ghost use Rattle.layout.specs.Offsets.{orderAt, size};
 ghost use Rattle.layout.specs.Bytes.{fromBytes};
 
-// Thirty-two places fill thirty-two bits only if no number stands twice.
+// A bit for each process.
+const EVERYBODY: u32 = ((1u64 << Tables::PROCESSES) - 1) as u32;
+
+// As many places as there are bits fill them only if no number stands twice.
 pub fn once_each(bytes: &[u8]) -> bool
     requires { ⌜ (length (now bytes) ≡ size) × ((i : ℕ) → i < processLimit → getD (now bytes) (orderAt + i) 0 < processLimit) ⌝ }
     ensures { λ r. ⌜ r ≡ onceEach (fromBytes (now (bytes .entry)) .order) ⌝ }
@@ -19,5 +22,5 @@ pub fn once_each(bytes: &[u8]) -> bool
         let p = bytes[ORDER + i];
         seen = seen | (1u32 << (p as u32));
     }
-    seen == 4294967295
+    seen == EVERYBODY
 }

@@ -14,17 +14,14 @@ slice-aggregate-read c = search needs
 read-requires : tie.Need-read-requires
 read-requires c κs = search needs
 
-returns : tie.Need-returns
-returns c = search needs
-
 serve-last-requires : tie.Need-serve-last-requires
 serve-last-requires c κs = search needs
 
 same-length : tie.Need-same-length
 same-length c = search needs
 
-returns-2 : tie.Need-returns-2
-returns-2 c = search needs
+returns : tie.Need-returns
+returns c = search needs
 
 slice-aggregate-count : tie.Need-slice-aggregate-count
 slice-aggregate-count c = search needs
@@ -64,8 +61,8 @@ write-all-requires c κs = search needs
 same-length-2 : tie.Need-same-length-2
 same-length-2 c = search needs
 
-returns-3 : tie.Need-returns-3
-returns-3 c = search needs
+returns-2 : tie.Need-returns-2
+returns-2 c = search needs
 
 pub serve-some-spec : {M : Type 1} → statement M
 serve-some-spec =
@@ -73,10 +70,9 @@ serve-some-spec =
     (tie.spec
     slice-aggregate-read
     read-requires
-    returns
     serve-last-requires
     same-length
-    returns-2
+    returns
     slice-aggregate-count
     count-requires
     array-share-prefix-chunk
@@ -88,4 +84,4 @@ serve-some-spec =
     slice-aggregate-write-all
     write-all-requires
     same-length-2
-    returns-3)
+    returns-2)

@@ -3,6 +3,7 @@ use Prim.Native.Nat.{_/_}
 use native.Mathlib.Omega.{arith}
 use mathlib.Core.Path.{sym}
 use lib.ListN.{length}
+use Rattle.lines.specs.Answers.{answerLength}
 use Rattle.lines.specs.Feed.{taken}
 use native.Mathlib.Nat.{min-le-left, mul-div-le}
 use Rattle.lines.proofs.FeedLaws.{take-least, least-long}
@@ -19,7 +20,7 @@ slice-aggregate-feed-all c =
     let at-least = c .before .before in
     let start = at-least .before .before .before .before in
     let chunk = start .args .chunk .now in
-    let most = length (start .args .out .now) / 13 in
+    let most = length (start .args .out .now) / answerLength in
     rw (at-least .least .ensures) (sym (least-long most chunk))
 
 feed-all-requires : tie.Need-feed-all-requires
@@ -27,8 +28,8 @@ feed-all-requires c κs =
     let at-least = c .before .before .before in
     let start = at-least .before .before .before .before in
     let chunk = start .args .chunk .now in
-    let most = length (start .args .out .now) / 13 in
-    rw (at-least .least .ensures, least-long most chunk) (omega (arith, min-le-left most (length chunk), mul-div-le (length (start .args .out .now)) 13))
+    let most = length (start .args .out .now) / answerLength in
+    rw (at-least .least .ensures, least-long most chunk) (omega (arith, min-le-left most (length chunk), mul-div-le (length (start .args .out .now)) answerLength))
 
 same-length : tie.Need-same-length
 same-length c = search needs
@@ -43,7 +44,7 @@ returns c =
     let at-least = at-feed-all .before .before .before .before in
     let start = at-least .before .before .before .before in
     let chunk = start .args .chunk .now in
-    let most = length (start .args .out .now) / 13 in
+    let most = length (start .args .out .now) / answerLength in
     (rw (← take-least most chunk, ← at-least .least .ensures) (at-feed-all .feed-all .ensures), front-counts (at-feed-all .feed-all .ensures))
 
 pub feed-spec : {M : Type 1} → statement M

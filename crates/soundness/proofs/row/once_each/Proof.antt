@@ -70,8 +70,8 @@ returns c =
     let o = fromBytes bs .order in
     let k : c .before .loop .i ≡ processLimit = omega arith in
     let e : c .before .loop .seen ≡ mask processLimit (λ p. ltb 0 (times p (take (c .before .loop .i) o))) = c .before .loop .inv .1 in
-    ap (λ (m : ℕ). eqb m 4294967295) (e ∙ ap (λ (l : List ℕ). mask processLimit (λ p. ltb 0 (times p l))) (take-all (c .before .loop .i) o (rw (order-long bs) (omega arith))))
-    ∙ mask-full (λ p. ltb 0 (times p o))
+    ap (λ (m : ℕ). eqb m (2 ^ processLimit - 1)) (e ∙ ap (λ (l : List ℕ). mask processLimit (λ p. ltb 0 (times p l))) (take-all (c .before .loop .i) o (rw (order-long bs) (omega arith))))
+    ∙ mask-full processLimit (λ p. ltb 0 (times p o))
     ∙ all-among o (order-long bs) (λ i h. rw (place-said bs i h) (c .before .before .pre .1 i h))
 
 pub once-each-spec : {M : Type 1} → statement M
