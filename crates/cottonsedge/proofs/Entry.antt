@@ -1,6 +1,4 @@
 -- What the one-call entry promises, from what the call in place does. Assumes nothing.
-
--- Bytes that aren't good come back as they came, answered 15
 use Prim.Native.Nat.{_<_, ℕ}
 use mathlib.Core.Bool.{false, true}
 use mathlib.Core.List.{List}
@@ -24,8 +22,11 @@ use Rattle.kernel.specs.declared.step.Told.{Told}
 use Rattle.layout.proofs.Image.{bytes-back, same-bytes, stands-made, stands-read}
 use Rattle.lists.proofs.Bools.{split}
 use Rattle.rules.proofs.Numbers.{enter-sound, enter-unsound}
-use Rattle.cottonsedge.specs.Entries.{answerOf, bootAnswer, booted, bytesAfter, checkAnswer, packed}
+use Rattle.cottonsedge.specs.Entries.{answerOf, bootAnswer, booted, bytesAfter, checkAnswer}
+use Rattle.cottonsedge.specs.Fields.{packed}
 use Rattle.cottonsedge.proofs.Standing.{good-formed, good-sound}
+
+-- Bytes that aren't good come back as they came, answered 15
 
 module _ (bs : List ℕ) (n : ℕ) (a b : ℤ) (g : good bs ≡ false) where
   unsound : wellFormed bs ≡ true → soundNow (fromBytes bs) ≡ false
@@ -65,11 +66,7 @@ module _ (bs after : List ℕ) (n : ℕ) (a b : ℤ) (r : Told) (byte : (i : ℕ
   unfolding answerOf
   called-answer = rw (did .0) (sym (rw (good-formed bs g, entered .0, entered .1)))
 
--- The answer and every byte are one function of what was lent and asked
-
-pub determined : (bs : List ℕ) (n : ℕ) (a b : ℤ) (r r′ : ℕ) (x x′ : List ℕ)
-    → (r ≡ answerOf bs n a b) × (x ≡ bytesAfter bs n a b) → (r′ ≡ answerOf bs n a b) × (x′ ≡ bytesAfter bs n a b) → (r ≡ r′) × (x ≡ x′)
-determined bs n a b r r′ x x′ p q = (p .0 ∙ sym (q .0), p .1 ∙ sym (q .1))
+-- What the other two entries answer and leave is one function of what was lent
 
 pub boot-determined : (bs : List ℕ) (r r′ : ℕ) (x x′ : List ℕ) → (r ≡ bootAnswer bs) × (x ≡ booted bs) → (r′ ≡ bootAnswer bs) × (x′ ≡ booted bs) → (r ≡ r′) × (x ≡ x′)
 boot-determined bs r r′ x x′ p q = (p .0 ∙ sym (q .0), p .1 ∙ sym (q .1))

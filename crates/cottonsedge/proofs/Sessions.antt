@@ -1,118 +1,121 @@
--- Demand 3, of the bytes that any sequence of calls leaves and of the answers that those calls gave. Assumes nothing.
-
--- Answers packed and read back
-
--- an answer that 48 bits can tell
-use Prim.Native.Nat.{_%_, _*_, _+_, _/_, _<_, _≤_, ℕ}
-use native.Mathlib.Omega.{arith}
+-- Demand 3, of the bytes that any session leaves and of what the firmware sees of it. Assumes nothing.
+use Prim.Native.Nat.{ℕ}
 use mathlib.Core.Bool.{true}
 use mathlib.Core.List.{List, [], _∷_}
-use mathlib.Core.Path.{_∙_, _≡_, ap, refl}
-use lib.IntN.{negsuc, ℤ}
+use mathlib.Core.Path.{_∙_, _≡_, ap, refl, sym}
 use lib.ListN.{length}
 use mir.Syntax.{w32}
-use mir.Val.{SFits, ofZ}
-use mir.ValLaws.{ofZ-fits, toZ-ofZ}
-use borrow.Author.Tests.{eq-eqb, ne-eqb}
-use Rattle.layout.specs.Bytes.{fromBytes, toBytes, wellFormed}
+use mir.Val.{ofZ}
+use borrow.Author.Tests.{eq-eqb}
+use Rattle.layout.specs.Bytes.{fromBytes, toBytes}
 use Rattle.layout.specs.Offsets.{size}
+use Rattle.lists.specs.Lists.{filter, firstOr}
+use Rattle.lists.specs.Numbers.{listed}
 use Rattle.promises.specs.Demand.{Demand3}
-use Rattle.promises.specs.Record.{AllFit, Request, after, recordOf}
-use Rattle.rules.specs.Answers.{valueOf}
-use Rattle.rules.specs.Enter.{numbered}
-use Rattle.rules.specs.declared.Answer.{Answer}
-use Rattle.rules.specs.declared.Answer.the-variants.{Done, Refused}
+use Rattle.promises.specs.Record.{AllFit, Request, after, made, recordOf}
+use Rattle.rules.specs.Answers.{numberOf, valueOf}
 use Rattle.soundness.specs.Good.{good}
 use Rattle.tables.specs.Boot.{boot}
-use Rattle.tables.specs.Limits.{processLimit}
-use Rattle.tables.specs.Readers.{currentOf}
-use Rattle.tables.specs.Sound.{Sound}
-use Rattle.tables.specs.declared.Tables.{Tables}
 use Rattle.tables.specs.Counts.{CountsFit}
-use Rattle.layout.proofs.Image.{formed-made, tables-back}
+use Rattle.tables.specs.Readers.{currentOf, line}
+use Rattle.tables.specs.Sound.{Sound}
 use Rattle.promises.proofs.Main.{demand3}
 use Rattle.promises.proofs.Runs.{boot-run-fits, boot-run-sound}
-use Rattle.rules.proofs.Fits.{fits-numbered}
-use Rattle.rules.proofs.Kept.{sound-numbered}
-use Rattle.rules.proofs.Numbers.{enter-sound}
-use Rattle.rules.proofs.Refusals.{Ranged, numbered-ranged}
-use Rattle.tables.proofs.Sentences.{current-below}
-use Rattle.cottonsedge.specs.Entries.{answerOf, booted, bytesAfter, currentByte, packed}
-use Rattle.cottonsedge.specs.Sessions.{answersLeft, bytesLeft, unpacked}
-use Rattle.cottonsedge.proofs.Standing.{sound-good, sound-held}
+use Rattle.cottonsedge.specs.Demands.{Demand2, Kernel}
+use Rattle.cottonsedge.specs.Entries.{answerOf, booted}
+use Rattle.cottonsedge.specs.Fields.{processField, refusalField, unpacked, valueField}
+use Rattle.cottonsedge.specs.Sessions.{AllAsked, Steps, exchanges, given, left, recordSeen, toldLast}
+use Rattle.cottonsedge.proofs.Asked.{asked-fit}
+use Rattle.cottonsedge.proofs.Calls.{back, call-answer, call-bytes, call-process, call-refusal, call-value}
+use Rattle.cottonsedge.proofs.SmallBytes.{sound-bytes}
+use Rattle.cottonsedge.proofs.Standing.{sound-good}
 
-abbrev Told : Answer → Type 0
-Told (Done v) = SFits w32 v
-Told (Refused n) = (1 ≤ n) × (n ≤ 14)
+boot-runs : currentOf boot ≡ 0
+unfolding boot line filter firstOr listed
+boot-runs = refl
 
-pub packed-back : (r : Answer) (p : ℕ) → Told r → p < 256 → unpacked (packed r p) ≡ r
-packed-back (Done v) p f h =
-    let n : ℕ = ofZ w32 v in
-    let small : n < 4294967296 = ofZ-fits w32 v f .fits in
-    let q : (0 * 1099511627776 + n * 256 + p) / 1099511627776 ≡ 0 = omega arith in
-    let k : (0 * 1099511627776 + n * 256 + p) / 256 % 4294967296 ≡ n = omega arith in
-    rw (q, k) (ap Done (toZ-ofZ w32 v f))
-packed-back (Refused n) p f h =
-    let q : (n * 1099511627776 + ofZ w32 (negsuc 0) * 256 + p) / 1099511627776 ≡ n = omega arith in
-    rw (q, ne-eqb n 0 (omega arith))
+-- From the bytes of the boot tables, where each step is allowed
 
-told : (r : Answer) → Ranged r → SFits w32 (valueOf r) → Told r
-told (Done v) h f = f
-told (Refused n) h f = h
+module _ (k : Kernel) where
+  pub steps-bytes : (requests : List Request) → AllFit requests → Steps k (toBytes boot) requests → left k (toBytes boot) requests ≡ toBytes (after boot requests)
+  unfolding left after Steps
+  steps-bytes [] f s = refl
+  steps-bytes (q ∷ earlier) (f, fs) (s, ss) =
+      s .bytes ∙ rw (steps-bytes earlier fs ss) (call-bytes (boot-run-sound earlier) (boot-run-fits earlier fs) (q .number) (q .a) (q .b))
 
--- One call on the bytes of sound tables whose counts fit
+  -- what is answered then
 
-module _ {t : Tables} (S : Sound t) (F : CountsFit t) where
-  back : fromBytes (toBytes t) ≡ t
-  back = tables-back t (sound-held S F)
+  module _ (q : Request) (earlier : List Request) (f : AllFit (q ∷ earlier)) (s : Steps k (toBytes boot) (q ∷ earlier)) where
+    abbrev answer : ℕ
+    answer = given k (toBytes boot) earlier q .answer
 
-  formed : wellFormed (toBytes t) ≡ true
-  formed = formed-made t (sound-held S F)
+    sound : Sound (after boot earlier)
+    sound = boot-run-sound earlier
 
-  call-bytes : (n : ℕ) (a b : ℤ) → bytesAfter (toBytes t) n a b ≡ toBytes (numbered t n a b .tables)
-  unfolding bytesAfter
-  call-bytes n a b = rw (formed, back, enter-sound t a b n S .0)
+    counts-fit : CountsFit (after boot earlier)
+    counts-fit = boot-run-fits earlier (f .1)
 
-  call-answer : (n : ℕ) (a b : ℤ) → SFits w32 a → SFits w32 b → unpacked (answerOf (toBytes t) n a b) ≡ numbered t n a b .answer
-  unfolding answerOf
-  call-answer n a b fa fb =
-      let e = enter-sound t a b n S in
-      let S′ = sound-numbered S n a b in
-      let r = numbered t n a b .answer in
-      let c : currentOf (numbered t n a b .tables) < processLimit = current-below S′ in
-      rw (formed, back, e .0, e .1) (packed-back r (currentOf (numbered t n a b .tables)) (told r (numbered-ranged t n a b) (fits-numbered S F n a b fa fb .1)) (omega arith))
+    answered : answer ≡ answerOf (toBytes (after boot earlier)) (q .number) (q .a) (q .b)
+    unfolding Steps
+    answered = s .0 .answer ∙ ap (λ (bs : List ℕ). answerOf bs (q .number) (q .a) (q .b)) (steps-bytes earlier (f .1) (s .1))
 
-  call-caller : currentByte (toBytes t) ≡ currentOf t
-  unfolding currentByte
-  call-caller = rw (sound-good S F, back)
+    pub steps-refusal : refusalField answer ≡ numberOf (made (after boot earlier) q .answer)
+    steps-refusal = ap refusalField answered ∙ call-refusal sound counts-fit (q .number) (q .a) (q .b) (f .0 .a) (f .0 .b)
 
--- Any sequence, from the boot tables
+    pub steps-value : valueField answer ≡ ofZ w32 (valueOf (made (after boot earlier) q .answer))
+    steps-value = ap valueField answered ∙ call-value sound counts-fit (q .number) (q .a) (q .b) (f .0 .a) (f .0 .b)
 
-pub left-bytes : (requests : List Request) → AllFit requests → bytesLeft (toBytes boot) requests ≡ toBytes (after boot requests)
-unfolding bytesLeft after
-left-bytes [] k = refl
-left-bytes (q ∷ earlier) (k, ks) =
-    ap (λ (bs : List ℕ). bytesAfter bs (q .number) (q .a) (q .b)) (left-bytes earlier ks)
-    ∙ call-bytes (boot-run-sound earlier) (boot-run-fits earlier ks) (q .number) (q .a) (q .b)
+    pub steps-process : processField answer ≡ currentOf (made (after boot earlier) q .tables)
+    steps-process = ap processField answered ∙ call-process sound counts-fit (q .number) (q .a) (q .b) (f .0 .a) (f .0 .b)
 
-left-answers : (requests : List Request) → AllFit requests → answersLeft (toBytes boot) requests ≡ recordOf boot requests
-unfolding answersLeft recordOf
-left-answers [] k = refl
-left-answers (q ∷ earlier) (k, ks) =
-    let S = boot-run-sound earlier in
-    let F = boot-run-fits earlier ks in
-    rw (left-bytes earlier ks, left-answers earlier ks, call-caller S F, call-answer S F (q .number) (q .a) (q .b) (k .a) (k .b))
+    steps-answer : unpacked answer ≡ made (after boot earlier) q .answer
+    steps-answer = ap unpacked answered ∙ call-answer sound counts-fit (q .number) (q .a) (q .b) (f .0 .a) (f .0 .b)
 
--- the bytes that `cottonsedge_boot` writes and any calls leave are the tables of demand 3, with the record that the answers make
-pub demand3-of-bytes : (bs : List ℕ) → length bs ≡ size → (requests : List Request) → AllFit requests
-    → Demand3 (fromBytes (bytesLeft (booted bs) requests)) (answersLeft (booted bs) requests)
+  -- the process told last is the one that runs
+  steps-told : (requests : List Request) → AllFit requests → Steps k (toBytes boot) requests → toldLast (exchanges k (toBytes boot) requests) ≡ currentOf (after boot requests)
+  unfolding exchanges after
+  steps-told [] f s = sym boot-runs
+  steps-told (q ∷ earlier) f s = steps-process q earlier f s
+
+  steps-record : (requests : List Request) → AllFit requests → Steps k (toBytes boot) requests → recordSeen (exchanges k (toBytes boot) requests) ≡ recordOf boot requests
+  unfolding exchanges recordSeen recordOf Steps
+  steps-record [] f s = refl
+  steps-record (q ∷ earlier) (f, fs) (s, ss) = rw (steps-told earlier fs ss, steps-record earlier fs ss, steps-answer q earlier (f, fs) (s, ss))
+
+  -- a kernel that meets demand 2 takes no other step
+  pub demand2-steps : Demand2 k → (requests : List Request) → AllAsked requests → Steps k (toBytes boot) requests
+  unfolding Steps
+  demand2-steps d [] h = tt
+  demand2-steps d (q ∷ earlier) (h, hs) =
+      let fs = asked-fit earlier hs in
+      let ss : Steps k (toBytes boot) earlier = demand2-steps d earlier hs in
+      (d earlier (left k (toBytes boot) earlier) q (rw (steps-bytes earlier fs ss) (sound-bytes (boot-run-sound earlier) (boot-run-fits earlier fs))) h, ss)
+
+-- Begun with what `cottonsedge_boot` writes
+
+pub boot-bytes : (bs : List ℕ) → length bs ≡ size → booted bs ≡ toBytes boot
 unfolding booted
-demand3-of-bytes bs l requests k =
-    let S = boot-run-sound requests in
-    let F = boot-run-fits requests k in
-    rw (eq-eqb (length bs) size l, left-bytes requests k, left-answers requests k, back S F) (demand3 requests)
+boot-bytes bs l = rw (eq-eqb (length bs) size l)
 
--- and they are sound
-pub left-good : (bs : List ℕ) → length bs ≡ size → (requests : List Request) → AllFit requests → good (bytesLeft (booted bs) requests) ≡ true
-unfolding booted
-left-good bs l requests k = rw (eq-eqb (length bs) size l, left-bytes requests k) (sound-good (boot-run-sound requests) (boot-run-fits requests k))
+module _ (k : Kernel) (d : Demand2 k) (bs : List ℕ) (l : length bs ≡ size) (requests : List Request) (hs : AllAsked requests) where
+  fits : AllFit requests
+  fits = asked-fit requests hs
+
+  steps : Steps k (toBytes boot) requests
+  steps = demand2-steps k d requests hs
+
+  -- the bytes that are left stand for the tables that the rules leave
+  pub left-tables : fromBytes (left k (booted bs) requests) ≡ after boot requests
+  left-tables = rw (boot-bytes bs l, steps-bytes k requests fits steps) (back (boot-run-sound requests) (boot-run-fits requests fits))
+
+  -- they are sound
+  pub left-good : good (left k (booted bs) requests) ≡ true
+  left-good = rw (boot-bytes bs l, steps-bytes k requests fits steps) (sound-good (boot-run-sound requests) (boot-run-fits requests fits))
+
+  -- the process that the last answer told is the one that runs
+  pub told-runs : toldLast (exchanges k (booted bs) requests) ≡ currentOf (fromBytes (left k (booted bs) requests))
+  told-runs = rw (left-tables, boot-bytes bs l) (steps-told k requests fits steps)
+
+  -- they are the tables of demand 3, with the record that is made of what is seen
+  pub demand3-of-bytes : Demand3 (fromBytes (left k (booted bs) requests)) (recordSeen (exchanges k (booted bs) requests))
+  demand3-of-bytes = rw (left-tables, boot-bytes bs l, steps-record k requests fits steps) (demand3 requests)

@@ -1,31 +1,43 @@
--- Any sequence of calls on the lent bytes, and the record that their answers make. The latest call comes first.
-use Prim.Native.Nat.{ℕ, _/_, _%_, _<_}
-use lib.Dec.{eqb}
+-- A session: any sequence of calls on the same bytes, and the record that is made of what the firmware sees of them. The latest call comes first.
+use Prim.Native.Nat.{ℕ}
 use mathlib.Core.List.{List, [], _∷_}
-use mir.Syntax.{w32}
-use mir.Val.{toZ, SFits}
-use Rattle.lists.specs.Lists.{if_then_else_}
-use Rattle.rules.specs.declared.Answer.{Answer}
-use Rattle.rules.specs.declared.Answer.the-variants.{Done, Refused}
 use Rattle.promises.specs.Record.{Request, Entry}
-use Rattle.cottonsedge.specs.Entries.{answerOf, bytesAfter, currentByte}
+use Rattle.cottonsedge.specs.Fields.{processField, unpacked}
+use Rattle.cottonsedge.specs.Demands.{Asked, Result, Allowed, Kernel}
 
--- the bytes that are left
-unfoldable pub bytesLeft : List ℕ → List Request → List ℕ
-bytesLeft start [] = start
-bytesLeft start (q ∷ earlier) = bytesAfter (bytesLeft start earlier) (q .number) (q .a) (q .b)
+abbrev pub AllAsked : List Request → Type 0
+AllAsked [] = Unit
+AllAsked (q ∷ qs) = Asked q × AllAsked qs
 
--- an answer read back from its number: a refusal number that isn't 0, or the value
-abbrev pub unpacked : ℕ → Answer
-unpacked r = if eqb (r / 1099511627776) 0 then Done (toZ w32 (r / 256 % 4294967296)) else Refused (r / 1099511627776)
+-- the bytes that a kernel leaves
+unfoldable pub left : Kernel → List ℕ → List Request → List ℕ
+left k start [] = start
+left k start (q ∷ earlier) = k earlier (left k start earlier) q .bytes
 
--- the record: who was current, what was called, what was answered
-unfoldable pub answersLeft : List ℕ → List Request → List Entry
-answersLeft start [] = []
-answersLeft start (q ∷ earlier) =
-    record {
-      caller = currentByte (bytesLeft start earlier);
-      request = q;
-      answer = unpacked (answerOf (bytesLeft start earlier) (q .number) (q .a) (q .b));
-    }
-    ∷ answersLeft start earlier
+-- what it gives when it is asked then
+abbrev pub given : Kernel → List ℕ → List Request → Request → Result
+given k start earlier q = k earlier (left k start earlier) q
+
+-- each step is allowed
+unfoldable pub Steps : Kernel → List ℕ → List Request → Type 0
+Steps k start [] = Unit
+Steps k start (q ∷ earlier) = Allowed (left k start earlier) q (given k start earlier q) × Steps k start earlier
+
+-- what the firmware sees of a call: what it asked, and the number that was answered
+pub record Exchange : Type 0 where
+  pub request : Request
+  pub answer : ℕ
+
+unfoldable pub exchanges : Kernel → List ℕ → List Request → List Exchange
+exchanges k start [] = []
+exchanges k start (q ∷ earlier) = record { request = q; answer = given k start earlier q .answer } ∷ exchanges k start earlier
+
+-- who calls next: the process that the last answer told, 0 after boot
+abbrev pub toldLast : List Exchange → ℕ
+toldLast [] = 0
+toldLast (x ∷ earlier) = processField (x .answer)
+
+-- the record of calls, from what is seen alone
+unfoldable pub recordSeen : List Exchange → List Entry
+recordSeen [] = []
+recordSeen (x ∷ earlier) = record { caller = toldLast earlier; request = x .request; answer = unpacked (x .answer) } ∷ recordSeen earlier

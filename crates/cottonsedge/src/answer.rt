@@ -2,16 +2,15 @@
 use layout::word::unsigned;
 use rules::Answer;
 ghost use mathlib.Core.Path.{_≡_};
-ghost use Prim.Native.Nat.{_+_, _*_};
 ghost use mir.Syntax.{w32};
 ghost use mir.Val.{ofZ};
-ghost use Rattle.cottonsedge.specs.Entries.{packed};
+ghost use Rattle.cottonsedge.specs.Fields.{joined, packed};
 
 // The running process that is told of tables that aren't sound.
 pub const UNKNOWN: u8 = 255;
 
 fn fields(refusal: u8, value: i32, process: u16) -> u64
-    ensures { λ r. ⌜ r ≡ refusal * 1099511627776 + ofZ w32 value * 256 + process ⌝ }
+    ensures { λ r. ⌜ r ≡ joined refusal (ofZ w32 value) process ⌝ }
 {
     let bits = unsigned(value);
     (refusal as u64) * 1099511627776 + (bits as u64) * 256 + (process as u64)

@@ -4,18 +4,18 @@ use crate::answer::pack;
 use kernel::enter;
 use rules::Answer;
 use soundness::check::is_sound;
-ghost use mathlib.Core.Path.{_≡_};
-ghost use Rattle.cottonsedge.specs.Entries.{answerOf, bytesAfter};
+ghost use Rattle.cottonsedge.specs.Entries.{Called};
 
 // The answer, with the tables changed where they stand. Tables that aren't sound are answered 15 and not a byte of them changes, nor at any other refusal.
 #[no_mangle]
 pub extern "C" fn cottonsedge_call(tables: &mut [u8], call: u8, a: i32, b: i32) -> u64
-    ensures { λ r. ⌜ (r ≡ answerOf (now (tables .entry)) call a b) × (now (tables .exit) ≡ bytesAfter (now (tables .entry)) call a b) ⌝ }
+    ensures { λ r. ⌜ Called (now (tables .entry)) call a b r (now (tables .exit)) ⌝ }
 {
     if !is_sound(tables) {
         return pack(Answer::Refused(15), UNKNOWN as u16);
     }
     let told = enter::call(tables, call, a, b);
     let answer = told.answer;
-    pack(answer, told.running as u16)
+    let running = told.running as u16;
+    pack(answer, running)
 }

@@ -1,7 +1,6 @@
 -- From boot on, the bench writes what the rules say of each line. Assumes nothing.
 use Prim.Native.Nat.{ℕ}
 use mathlib.Core.Path.{_≡_, refl, _∙_}
-use mathlib.Core.Bool.{true}
 use mathlib.Core.List.{List, [], _∷_}
 use lib.Dec.{eqb}
 use lib.ListN.{length, take, drop}
@@ -16,13 +15,13 @@ use Rattle.tables.specs.Counts.{CountsFit}
 use Rattle.tables.specs.Readers.{currentOf}
 use Rattle.tables.proofs.BootLaws.{sound-boot}
 use Rattle.layout.specs.Offsets.{size}
-use Rattle.layout.specs.Bytes.{toBytes, fromBytes, wellFormed}
-use Rattle.layout.proofs.Image.{formed-made, tables-back}
-use Rattle.rules.proofs.Numbers.{enter-sound}
+use Rattle.layout.specs.Bytes.{toBytes}
 use Rattle.rules.proofs.Kept.{sound-numbered}
 use Rattle.rules.proofs.Fits.{fits-boot, fits-numbered}
-use Rattle.cottonsedge.specs.Entries.{answerOf, bytesAfter, booted, currentByte, packed}
-use Rattle.cottonsedge.proofs.Standing.{sound-good, sound-held}
+use Rattle.cottonsedge.specs.Entries.{booted, currentByte}
+use Rattle.cottonsedge.specs.Fields.{packed}
+use Rattle.cottonsedge.proofs.Calls.{back, call-bytes, call-packed}
+use Rattle.cottonsedge.proofs.Standing.{sound-good}
 use Rattle.lines.specs.declared.hex.Field.{Field}
 use Rattle.lines.specs.declared.hex.Field.the-variants.{Value, Wrong}
 use Rattle.lines.specs.declared.line.Line.{Line}
@@ -63,23 +62,10 @@ record Goes (t : Tables) (l : Line) : Type 0 where
   fits : CountsFit (outcomeOf t l .tables)
 
 module _ {t : Tables} (S : Sound t) (F : CountsFit t) where
-  back : fromBytes (toBytes t) ≡ t
-  back = tables-back t (sound-held S F)
-
-  formed : wellFormed (toBytes t) ≡ true
-  formed = formed-made t (sound-held S F)
-
   goes : (l : Line) → ArgumentsFit l → Goes t l
-  unfolding answerOf bytesAfter currentByte
-  goes (Request n a b) (fa, fb) =
-      let e = enter-sound t a b n S in
-      record {
-        told = rw (formed, back, e .0, e .1);
-        left = rw (formed, back, e .0);
-        sound = sound-numbered S n a b;
-        fits = fits-numbered S F n a b fa fb .0;
-      }
-  goes WrongLine k = record { told = rw (sound-good S F, back); left = refl; sound = S; fits = F }
+  unfolding currentByte
+  goes (Request n a b) (fa, fb) = record { told = call-packed S F n a b; left = call-bytes S F n a b; sound = sound-numbered S n a b; fits = fits-numbered S F n a b fa fb .0 }
+  goes WrongLine k = record { told = rw (sound-good S F, back S F); left = refl; sound = S; fits = F }
 
 -- all lines
 

@@ -8,13 +8,14 @@ use mathlib.Core.List.{List, [], _∷_, _++_, append-nil, append-assoc}
 use lib.Dec.{eqb}
 use lib.ListN.{length, take, drop, length-append, length-take}
 use lib.Seq.{take-all, take-append-le, append-snoc, take-at}
-use borrow.Author.Tests.{eq-eqb, eqb-true, ne-eqb}
+use borrow.Author.Tests.{eqb-true, ne-eqb}
 use Rattle.lists.specs.Lists.{if_then_else_, isEmpty}
 use Rattle.lists.proofs.Bools.{split, below?}
 use Rattle.tables.specs.Boot.{boot}
 use Rattle.layout.specs.Offsets.{size}
 use Rattle.layout.specs.Bytes.{toBytes}
 use Rattle.cottonsedge.specs.Entries.{booted}
+use Rattle.cottonsedge.proofs.Sessions.{boot-bytes}
 use Rattle.lines.specs.declared.feed.Fed.{Fed}
 use Rattle.lines.specs.Line.{lineOf}
 use Rattle.lines.specs.Answers.{newline, answerTo, tablesAfter, textOf, before, linesOf, answersTo, answers, over}
@@ -146,5 +147,4 @@ session-answered {bytes} {chunks} session =
 
 -- the bench: begun with what `cottonsedge_boot` writes, its whole output is the answers to its whole input from the boot tables on
 pub bench-answered : (bytes : List ℕ) {chunks : List (List ℕ)} {out : List ℕ} → length bytes ≡ size → Session (start (booted bytes)) chunks out → out ≡ answers (toBytes boot) (joined chunks)
-unfolding booted
-bench-answered bytes long session = session-answered session ∙ rw (eq-eqb (length bytes) size long)
+bench-answered bytes {chunks} long session = session-answered session ∙ ap (λ (bs : List ℕ). answers bs (joined chunks)) (boot-bytes bytes long)

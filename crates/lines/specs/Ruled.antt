@@ -6,7 +6,7 @@ use Rattle.tables.specs.Readers.{currentOf}
 use Rattle.rules.specs.declared.Outcome.{Outcome}
 use Rattle.rules.specs.Answers.{refused}
 use Rattle.rules.specs.Enter.{numbered}
-use Rattle.cottonsedge.specs.Entries.{packed}
+use Rattle.cottonsedge.specs.Fields.{packed}
 use Rattle.lines.specs.declared.line.Line.{Line}
 use Rattle.lines.specs.declared.line.Line.the-variants.{Request, Wrong}
 use Rattle.lines.specs.Line.{lineOf}

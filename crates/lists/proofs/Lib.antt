@@ -1,4 +1,5 @@
 pub mod Bools
+pub mod Exactly
 pub mod ListLaws
 pub mod FallingLaws
 pub mod NumberLaws

@@ -140,3 +140,30 @@ found f size k h e = go (searched f (roundFrom size k) e)
           there = sym (round-at size k i h il) ∙ r .here;
           passedOver = λ j m. subst (λ (x : ℕ). f x ≡ false) (round-at size k j h (omega arith)) (r .before j m);
         }
+
+-- Nothing is found exactly when nothing below the size passes
+
+none-passes : (f : ℕ → Bool) (xs : List ℕ) → isEmpty (filter f xs) ≡ true → (i : ℕ) → i < length xs → f (getD xs i 0) ≡ false
+unfolding filter isEmpty
+none-passes f [] h i k = absurd (omega arith)
+none-passes f (x ∷ xs) h i k = go (f x) refl h (none-passes f xs) i k
+  where
+    go : (b : Bool) → f x ≡ b → isEmpty (if b then x ∷ filter f xs else filter f xs) ≡ true → (isEmpty (filter f xs) ≡ true → (i : ℕ) → i < length xs → f (getD xs i 0) ≡ false) → (i : ℕ) → i < length (x ∷ xs) → f (getD (x ∷ xs) i 0) ≡ false
+    go true e h ih i k = absurd (true≢false (sym h))
+    go false e h ih zero k = e
+    go false e h ih (suc i) k = ih h i (omega arith)
+
+module _ (f : ℕ → Bool) (size k : ℕ) (h : k < size) where
+  pub none-found : isEmpty (filter f (roundFrom size k)) ≡ true → (x : ℕ) → x < size → f x ≡ false
+  none-found e x l =
+      below? x k
+      (λ c. subst (λ (y : ℕ). f y ≡ false) (rw (le-ltb (k + (x + size - k)) size (omega arith)) (omega arith)) (at (x + size - k) (omega arith)))
+      (λ c. subst (λ (y : ℕ). f y ≡ false) (rw (lt-ltb (k + (x - k)) size (omega arith)) (omega arith)) (at (x - k) (omega arith)))
+    where
+      at : (i : ℕ) → i < size → f (onward size k i) ≡ false
+      at i b = subst (λ (y : ℕ). f y ≡ false) (round-at size k i h b) (none-passes f (roundFrom size k) e i (rw (round-length size k h) b))
+
+  pub found-none : ((x : ℕ) → x < size → f x ≡ false) → isEmpty (filter f (roundFrom size k)) ≡ true
+  found-none n =
+      split (isEmpty (filter f (roundFrom size k))) (λ e. e)
+      (λ e. let w = found f size k h e in absurd (true≢false (sym (w .passes) ∙ n (first (filter f (roundFrom size k))) (w .below))))

@@ -2,7 +2,7 @@
 use Prim.Native.Nat.{ℕ}
 use mathlib.Core.Bool.{Bool, true, false, not, _||_}
 use mathlib.Core.List.{List, [], _∷_}
-use mathlib.Core.Option.{Option, none, some}
+use mathlib.Core.Option.{Option, some}
 use mathlib.Core.Path.{_≡_, refl, sym, ap, subst, _∙_}
 use lib.Dec.{eqb, ltb}
 use lib.IntN.{ℤ, sucℤ, natAbs}
@@ -24,7 +24,7 @@ use Rattle.rules.proofs.Resched.{Settled}
 use Rattle.rules.proofs.Effects.{Shows, Effect, settled-shows}
 use Rattle.rules.proofs.Refusals.{unless-cases}
 use Rattle.rules.proofs.Does.{KillDoes, Does, used, does}
-use Rattle.promises.specs.Record.{Account, stillBlocked, among, opened, waited, signalled, killed, change, noted, answered}
+use Rattle.promises.specs.Record.{Account, stillBlocked, among, opened, killed, change, Event, Sets, Ends, Signals, Waits, Nothing, accepted, answered, noted}
 use Rattle.promises.proofs.Accounts.{Agrees, agrees-waited, agrees-signalled, agrees-killed, agrees-spared}
 
 -- the account is the one of semaphore r in t
@@ -41,12 +41,12 @@ settled-agree g r old h = agree-shows old (settled-shows g r) h
 
 -- Calls that change how one semaphore is seen
 
-effect-agree : {t t′ : Tables} {s : ℕ} {u : Bool} {c : ℤ} {q : List ℕ} → Effect t t′ s u c q → (f : Option Account → Option Account) → ((old : Option Account) → Agree t s old → Agrees u c q (f old))
-    → (r : ℕ) (old : Option Account) → Agree t r old → Agree t′ r (if eqb s r then f old else old)
-effect-agree {t} {t′} {s} {u} {c} {q} E f h r old a = go (eqb s r) refl
+effect-agree : {t t′ : Tables} {s : ℕ} {u : Bool} {c : ℤ} {q : List ℕ} → Effect t t′ s u c q → (p : ℕ) (x : Event) → ((old : Option Account) → Agree t s old → Agrees u c q (noted p x old))
+    → (r : ℕ) (old : Option Account) → Agree t r old → Agree t′ r (noted p (if eqb s r then x else Nothing) old)
+effect-agree {t} {t′} {s} {u} {c} {q} E p x h r old a = go (eqb s r) refl
   where
-    go : (b : Bool) → eqb s r ≡ b → Agree t′ r (if b then f old else old)
-    go true e = subst (λ (n : ℕ). Agree t′ n (f old)) (eqb-true s r e) (agree-shows (f old) (E .here) (h old (subst (λ (n : ℕ). Agree t n old) (sym (eqb-true s r e)) a)))
+    go : (b : Bool) → eqb s r ≡ b → Agree t′ r (noted p (if b then x else Nothing) old)
+    go true e = subst (λ (n : ℕ). Agree t′ n (noted p x old)) (eqb-true s r e) (agree-shows (noted p x old) (E .here) (h old (subst (λ (n : ℕ). Agree t n old) (sym (eqb-true s r e)) a)))
     go false e = agree-shows old (E .elsewhere r (λ d. eqb-false s r e (sym d))) a
 
 agrees-opened : (c : ℤ) → Agrees true c [] (some (opened c))
@@ -85,12 +85,12 @@ module _ {t : Tables} (S : Sound t) where
           agree-shows (change (killed p) old) (E .elsewhere r (λ c. eqb-false s r d (sym c)))
           (agrees-spared (isUsed t r) (countOf t r) (queue t r) p old (absent p r (ap (waitsOn r) e ∙ d)) a)
 
-  does-agree : (c : Call) (t′ : Tables) → Accepted t c → Does t c t′ → (r : ℕ) (old : Option Account) → Agree t r old → Agree t′ r (noted r (currentOf t) c (deed t c .value) old)
-  does-agree (Wait a) t′ k E = effect-agree E (change (waited (currentOf t))) (λ old h. agrees-waited (countOf t (natAbs a)) (queue t (natAbs a)) (currentOf t) old (in-use a (k .1 .0) old h))
-  does-agree (Signal a) t′ k E = effect-agree E (change signalled) (λ old h. agrees-signalled (countOf t (natAbs a)) (queue t (natAbs a)) old (in-use a (k .1 .0) old h))
-  does-agree (MakeSemaphore a) t′ k E = effect-agree E (λ old. some (opened a)) (λ old h. agrees-opened a)
-  does-agree (Delete a) t′ k E = effect-agree E (λ old. none) (λ old h. tt)
-  does-agree (Reset a b) t′ k E = effect-agree E (λ old. some (opened b)) (λ old h. agrees-opened b)
+  does-agree : (c : Call) (t′ : Tables) → Accepted t c → Does t c t′ → (r : ℕ) (old : Option Account) → Agree t r old → Agree t′ r (noted (currentOf t) (accepted r c (deed t c .value)) old)
+  does-agree (Wait a) t′ k E = effect-agree E (currentOf t) Waits (λ old h. agrees-waited (countOf t (natAbs a)) (queue t (natAbs a)) (currentOf t) old (in-use a (k .1 .0) old h))
+  does-agree (Signal a) t′ k E = effect-agree E (currentOf t) Signals (λ old h. agrees-signalled (countOf t (natAbs a)) (queue t (natAbs a)) old (in-use a (k .1 .0) old h))
+  does-agree (MakeSemaphore a) t′ k E = effect-agree E (currentOf t) (Sets a) (λ old h. agrees-opened a)
+  does-agree (Delete a) t′ k E = effect-agree E (currentOf t) Ends (λ old h. tt)
+  does-agree (Reset a b) t′ k E = effect-agree E (currentOf t) (Sets b) (λ old h. agrees-opened b)
   does-agree (MakeProcess a) t′ k g = settled-agree g
   does-agree (Resume a) t′ k g = settled-agree g
   does-agree (Suspend a) t′ k g = settled-agree g
@@ -99,14 +99,14 @@ module _ {t : Tables} (S : Sound t) where
   does-agree (Count a) t′ k g = settled-agree g
 
   -- refusals keep what they find
-  step-agree : (c : Call) (r : ℕ) (old : Option Account) → Agree t r old → Agree (step t c .tables) r (answered r (currentOf t) c (step t c .answer) old)
+  step-agree : (c : Call) (r : ℕ) (old : Option Account) → Agree t r old → Agree (step t c .tables) r (noted (currentOf t) (answered r c (step t c .answer)) old)
   unfolding step
   step-agree c r old h =
-      unless-cases t (λ o. Agree (o .tables) r (answered r (currentOf t) c (o .answer) old)) (λ n. h) (checks t c) (finish (deed t c))
+      unless-cases t (λ o. Agree (o .tables) r (noted (currentOf t) (answered r c (o .answer)) old)) (λ n. h) (checks t c) (finish (deed t c))
       (λ k. does-agree c (finish (deed t c) .tables) k (does S c k) r old h)
 
-  pub numbered-agree : (n : ℕ) (a b : ℤ) (r : ℕ) (old : Option Account) → Agree t r old → Agree (numbered t n a b .tables) r (answered r (currentOf t) (callOf n a b) (numbered t n a b .answer) old)
+  pub numbered-agree : (n : ℕ) (a b : ℤ) (r : ℕ) (old : Option Account) → Agree t r old → Agree (numbered t n a b .tables) r (noted (currentOf t) (answered r (callOf n a b) (numbered t n a b .answer)) old)
   unfolding numbered
   numbered-agree n a b r old h =
-      unless-cases t (λ o. Agree (o .tables) r (answered r (currentOf t) (callOf n a b) (o .answer) old)) (λ m. h) ((13 when ltb n 1 || ltb 11 n) ∷ (14 when spare n a b) ∷ []) (step t (callOf n a b))
+      unless-cases t (λ o. Agree (o .tables) r (noted (currentOf t) (answered r (callOf n a b) (o .answer)) old)) (λ m. h) ((13 when ltb n 1 || ltb 11 n) ∷ (14 when spare n a b) ∷ []) (step t (callOf n a b))
       (λ k. step-agree (callOf n a b) r old h)

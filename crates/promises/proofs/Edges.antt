@@ -1,5 +1,4 @@
 -- Every line of the table of edges holds: computed from the rules. Assumes nothing.
-use mathlib.Core.Bool.{true}
 use mathlib.Core.Path.{_≡_, refl}
 use Rattle.lists.specs.Lists.{filter, takeOut, putBefore, place, times, isEmpty, firstOr}
 use Rattle.lists.specs.Numbers.{listed, roundFrom}
@@ -9,8 +8,8 @@ use Rattle.rules.specs.Schedule.{joining, makeAllReady, startFirst, switch, res
 use Rattle.rules.specs.Calls.{step}
 use Rattle.rules.specs.Enter.{numbered}
 use Rattle.promises.specs.Record.{after}
-use Rattle.promises.specs.Edges.{sameList, allHold, edges}
+use Rattle.promises.specs.Edges.{Each, edges, sightOf}
 
-pub edges-hold : allHold edges ≡ true
-unfolding allHold after sameList numbered step boot filter takeOut putBefore place times isEmpty firstOr listed roundFrom line joining makeAllReady startFirst switch reschedule
-edges-hold = refl
+pub edges-hold : Each (λ e. sightOf e ≡ e .sight) edges
+unfolding after numbered step boot filter takeOut putBefore place times isEmpty firstOr listed roundFrom line joining makeAllReady startFirst switch reschedule
+edges-hold = (refl, (refl, (refl, (refl, (refl, (refl, (refl, (refl, (refl, (refl, (refl, (refl, (refl, (refl, tt))))))))))))))

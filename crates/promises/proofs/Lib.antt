@@ -1,6 +1,6 @@
 pub mod Accounts
+pub mod Sums
 pub mod Demand3
 pub mod Runs
 pub mod Main
 pub mod Edges
-pub mod ShutOut

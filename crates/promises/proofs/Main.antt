@@ -23,9 +23,11 @@ use Rattle.tables.proofs.LineLaws.{in-line-live}
 use Rattle.tables.proofs.Sentences.{few-wait, sentences}
 use Rattle.tables.proofs.BootLaws.{entry-boot, sound-boot}
 use Rattle.rules.proofs.Kept.{sound-numbered}
-use Rattle.promises.specs.Record.{Account, Entry, Request, account, after, recordOf, stillBlocked}
-use Rattle.promises.specs.Demand.{Demand3, OnePlace, Place, Start, queueOf, ready, running, suspended, there}
+use Rattle.promises.specs.Record.{Account, Entry, Request, account, after, recordOf}
+use Rattle.promises.specs.Sum.{Sum, sumOf}
+use Rattle.promises.specs.Demand.{Accounted, Demand3, OnePlace, Place, Start, queueOf, ready, running, suspended, there}
 use Rattle.promises.proofs.Accounts.{Agrees}
+use Rattle.promises.proofs.Sums.{Sums, record-sums}
 use Rattle.promises.proofs.Demand3.{Agree, numbered-agree}
 
 -- what every call keeps
@@ -53,9 +55,10 @@ module _ {start : Tables} (st : Start start) where
 
 -- What the demand says
 
-used-account : (c : ℤ) (q : List ℕ) (old : Option Account) → Agrees true c q old → (n : Account) × ((old ≡ some n) × ((c ≡ n .count) × (q ≡ stillBlocked (n .waits))))
-used-account c q none h = absurd h
-used-account c q (some n) h = (n, (refl, (sym (h .0), sym (h .1))))
+used-account : (t : Tables) (es : List Entry) (s : ℕ) (old : Option Account) (sum : Option Sum) → account s es ≡ old → sumOf s es ≡ sum → Agrees true (countOf t s) (queue t s) old → Sums old sum → Accounted t es s
+used-account t es s none sum d e h k = absurd h
+used-account t es s (some n) none d e h k = absurd k
+used-account t es s (some n) (some m) d e h k = record { sum = m; summed = e; adds = sym (h .0) ∙ k; says = n; known = d; count = sym (h .0); waiters = sym (h .1) }
 
 unused-account : (c : ℤ) (q : List ℕ) (old : Option Account) → Agrees false c q old → old ≡ none
 unused-account c q none h = refl
@@ -132,7 +135,7 @@ demanded {t} {es} i =
     record {
       places = λ p h. placed (i .sound) p (stateOf t p) refl h;
       free = nowhere (i .sound);
-      inUse = λ s h. let w = used-account (countOf t s) (queue t s) (account s es) (rw h at (i .agrees s)) in record { says = w .0; known = w .1 .0; count = w .1 .1 .0; waiters = w .1 .1 .1 };
+      inUse = λ s h. used-account t es s (account s es) (sumOf s es) refl refl (rw h at (i .agrees s)) (record-sums s es);
       notInUse = λ s h. (unused-account (countOf t s) (queue t s) (account s es) (rw h at (i .agrees s)), sentences (i .sound) .noQueue s h);
       waiters = i .sound .queued .counted;
       different = different (i .sound);

@@ -13,6 +13,7 @@ use Rattle.tables.specs.States.{isFree, isSuspended}
 use Rattle.tables.specs.Readers.{stateOf, isUsed, countOf, line, readyList, queue, currents}
 use Rattle.tables.specs.Sound.{Counted, Sound}
 use Rattle.promises.specs.Record.{Entry, Account, stillBlocked, account}
+use Rattle.promises.specs.Sum.{Sum, amount, sumOf}
 
 -- Places
 
@@ -35,6 +36,10 @@ pub record OnePlace (t : Tables) (p : ℕ) : Type 0 where
 
 -- the record has an account of semaphore s, with its count, and with its queue: those still blocked, oldest first
 pub record Accounted (t : Tables) (entries : List Entry) (s : ℕ) : Type 0 where
+  -- the count is the last created or reset count, plus later signals, minus later waits, plus later kills of its waiters
+  pub sum : Sum
+  pub summed : sumOf s entries ≡ some sum
+  pub adds : countOf t s ≡ amount sum
   pub says : Account
   pub known : account s entries ≡ some says
   pub count : countOf t s ≡ says .count

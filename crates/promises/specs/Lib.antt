@@ -1,4 +1,4 @@
 pub mod Record
+pub mod Sum
 pub mod Demand
-pub mod Kernels
 pub mod Edges

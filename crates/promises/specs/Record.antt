@@ -94,36 +94,60 @@ signalled n = record { count = sucℤ (n .count); waits = if below0 (n .count) t
 unfoldable pub killed : ℕ → Account → Account
 killed p n = if among p (stillBlocked (n .waits)) then record { count = sucℤ (n .count); waits = strike p (n .waits) } else n
 
-abbrev pub change : (Account → Account) → Option Account → Option Account
+abbrev pub change : {A : Type 0} → (A → A) → Option A → Option A
 change f none = none
 change f (some n) = some (f n)
 
 abbrev pub names : ℤ → ℕ → Bool
 names a s = eqb (natAbs a) s
 
--- the account of semaphore s after p made the call and was answered with value v; a semaphore that isn't in use has none
-abbrev pub noted : ℕ → ℕ → Call → ℤ → Option Account → Option Account
-noted s p (Wait a) v old = if names a s then change (waited p) old else old
-noted s p (Signal a) v old = if names a s then change signalled old else old
-noted s p (MakeSemaphore a) v old = if names v s then some (opened a) else old
-noted s p (Delete a) v old = if names a s then none else old
-noted s p (Reset a b) v old = if names a s then some (opened b) else old
-noted s p (MakeProcess a) v old = old
-noted s p (Resume a) v old = old
-noted s p (Suspend a) v old = old
-noted s p (Kill a) v old = change (killed (natAbs a)) old
-noted s p Yield v old = old
-noted s p (Count a) v old = old
+-- What an entry is to a semaphore
+
+pub data Event : Type 0 where
+  -- it is made with this count, or reset to it
+  Sets : ℤ → Event
+  -- it is deleted
+  Ends : Event
+  Signals Waits : Event
+  -- this process is killed, whether or not it waits here
+  Kills : ℕ → Event
+  Nothing : Event
+
+-- what a call that was answered with value v is to semaphore s
+abbrev pub accepted : ℕ → Call → ℤ → Event
+accepted s (Wait a) v = if names a s then Waits else Nothing
+accepted s (Signal a) v = if names a s then Signals else Nothing
+accepted s (MakeSemaphore a) v = if names v s then Sets a else Nothing
+accepted s (Delete a) v = if names a s then Ends else Nothing
+accepted s (Reset a b) v = if names a s then Sets b else Nothing
+accepted s (MakeProcess a) v = Nothing
+accepted s (Resume a) v = Nothing
+accepted s (Suspend a) v = Nothing
+accepted s (Kill a) v = Kills (natAbs a)
+accepted s Yield v = Nothing
+accepted s (Count a) v = Nothing
 
 -- refused calls add nothing
-abbrev pub answered : ℕ → ℕ → Call → Answer → Option Account → Option Account
-answered s p c (Done v) old = noted s p c v old
-answered s p c (Refused n) old = old
+abbrev pub answered : ℕ → Call → Answer → Event
+answered s c (Done v) = accepted s c v
+answered s c (Refused n) = Nothing
+
+abbrev pub event : ℕ → Entry → Event
+event s e = answered s (callOf (e .request .number) (e .request .a) (e .request .b)) (e .answer)
+
+-- the account after it, where p is the caller; a semaphore that isn't in use has none
+abbrev pub noted : ℕ → Event → Option Account → Option Account
+noted p (Sets c) old = some (opened c)
+noted p Ends old = none
+noted p Signals old = change signalled old
+noted p Waits old = change (waited p) old
+noted p (Kills q) old = change (killed q) old
+noted p Nothing old = old
 
 -- what a record says of semaphore s; the latest entry comes first
 unfoldable pub account : ℕ → List Entry → Option Account
 account s [] = none
-account s (e ∷ earlier) = answered s (e .caller) (callOf (e .request .number) (e .request .a) (e .request .b)) (e .answer) (account s earlier)
+account s (e ∷ earlier) = noted (e .caller) (event s e) (account s earlier)
 
 -- The tables and the record after any list of requests, the latest first
 

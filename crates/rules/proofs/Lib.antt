@@ -11,9 +11,9 @@ pub mod Does
 pub mod Kept
 pub mod Fits
 pub mod Numbers
-pub mod Session
 pub mod Seats
 pub mod Cursors
 pub mod Others
 pub mod Telling
 pub mod Told
+pub mod Given

@@ -27,11 +27,11 @@ use Rattle.rules.specs.declared.Outcome.{Outcome}
 use Rattle.rules.specs.Schedule.{makeReady, switch, reschedule}
 use Rattle.rules.specs.Answers.{valueOf, done, refused, Check, _when_}
 use Rattle.rules.specs.Calls.{Call, Wait, Signal, MakeSemaphore, Delete, Reset, MakeProcess, Resume, Suspend, Kill, Yield, Count, below0, freeSemaphores, freeSlots, checks, step}
-use Rattle.rules.specs.Telling.{NoneHolds, Accepted, makes, makesOrKills, resumesOrSuspends, inUse, notInUse, seats, seated, behind, PutBehind, headRuns, reseat, released, Changes, Keeps}
+use Rattle.rules.specs.Telling.{NoneHolds, FirstHolds, Accepted, makes, makesOrKills, resumesOrSuspends, inUse, notInUse, seats, seated, behind, PutBehind, headRuns, reseat, released, Changes, Keeps}
 use Rattle.rules.proofs.Moves.{ready-behind}
 use Rattle.rules.proofs.WaitSignal.{blocks-not-null}
 use Rattle.rules.proofs.Slots.{kill-prepared}
-use Rattle.rules.proofs.Refusals.{step-done, step-refused, step-first}
+use Rattle.rules.proofs.Refusals.{step-done, step-refused, step-first, step-only}
 use Rattle.rules.proofs.Does.{not-null, used, does}
 use Rattle.rules.proofs.Seats.{seats-entry, seats-cursors, seats-reschedule, reseat-nobody, seats-blocked, seats-woken, seats-resumed, seats-yielded, seats-stopped-current, seats-stopped-other, seats-released, slot-stopped}
 use Rattle.rules.proofs.Cursors.{cursors-kept}
@@ -43,6 +43,10 @@ use Rattle.rules.proofs.Telling.{behind-put, changed, kept, only-curren
 -- of the checks that a call fails the first in order gives the refusal number
 pub refused-first : (t : Tables) (c : Call) (before after : List Check) (n : ℕ) → checks t c ≡ before ++ (n when true) ∷ after → NoneHolds before → step t c ≡ refused n t
 refused-first = step-first
+
+-- and a refusal number is given by such a check only
+pub refused-only : (t : Tables) (c : Call) (n : ℕ) → step t c .answer ≡ Refused n → FirstHolds (checks t c) n
+refused-only = step-only
 
 -- a refused call changes nothing, and its value is -1
 pub refused-nothing : (t : Tables) (c : Call) (n : ℕ) → step t c .answer ≡ Refused n → (step t c .tables ≡ t) × (valueOf (step t c .answer) ≡ negsuc 0)

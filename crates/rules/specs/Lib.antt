@@ -3,3 +3,4 @@ pub mod Answers
 pub mod Calls
 pub mod Enter
 pub mod Telling
+pub mod Reasons

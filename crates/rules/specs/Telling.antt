@@ -11,13 +11,20 @@ use Rattle.tables.specs.declared.Tables.{Tables}
 use Rattle.tables.specs.Readers.{priorityOf, isUsed, countOf, readyList, queue, currents}
 use Rattle.rules.specs.declared.Answer.the-variants.{Done}
 use Rattle.rules.specs.declared.Outcome.{Outcome}
-use Rattle.rules.specs.Answers.{Check}
+use Rattle.rules.specs.Answers.{Check, _when_}
 use Rattle.rules.specs.Calls.{Call, Wait, Signal, MakeSemaphore, Delete, Reset, MakeProcess, Resume, Suspend, Kill, Yield, Count, freeSlots, checks}
 
 -- none of these checks holds
 abbrev pub NoneHolds : List Check → Type 0
 NoneHolds [] = Unit
 NoneHolds (c ∷ cs) = (c .holds ≡ false) × NoneHolds cs
+
+-- n is the number of the first of these checks that holds
+pub record FirstHolds (cs : List Check) (n : ℕ) : Type 0 where
+  pub before : List Check
+  pub after : List Check
+  pub found : cs ≡ before ++ (n when true) ∷ after
+  pub none : NoneHolds before
 
 -- none of the call's checks holds, so that it is done
 abbrev pub Accepted : Tables → Call → Type 0

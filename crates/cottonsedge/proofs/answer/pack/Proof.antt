@@ -1,10 +1,10 @@
-use Prim.Native.Nat.{_*_, _+_}
 use mathlib.Core.Path.{_∙_, ap}
 use lib.IntN.{ℤ}
 use mir.Syntax.{w32}
 use mir.Val.{SFits, ofZ}
 use mir.ValLaws.{toZ-ofZ}
 use borrow.Author.Needs.{needs}
+use Rattle.cottonsedge.specs.Fields.{joined}
 use Rattle.cottonsedge.proofs.answer.pack.Statement.{statement}
 use Rattle.cottonsedge.proofs.answer.pack.Tie as tie
 
@@ -23,7 +23,7 @@ fields-requires-2 c κs = search needs
 returns : tie.Need-returns
 returns c =
     let f : SFits w32 (c .before .before .answer .given .0 .0) = search needs in
-    rw (c .before .before .answer .given .1) (c .fields .ensures ∙ ap (λ (z : ℤ). 0 * 1099511627776 + ofZ w32 z * 256 + c .before .before .before .before .args .process) (toZ-ofZ w32 (c .before .before .answer .given .0 .0) f))
+    rw (c .before .before .answer .given .1) (c .fields .ensures ∙ ap (λ (z : ℤ). joined 0 (ofZ w32 z) (c .before .before .before .before .args .process)) (toZ-ofZ w32 (c .before .before .answer .given .0 .0) f))
 
 returns-2 : tie.Need-returns-2
 returns-2 c = rw (c .before .before .answer2 .given .1) (c .fields2 .ensures)

@@ -16,7 +16,7 @@ returns : tie.Need-returns
 returns c =
     let bs = c .before .before .before .before .before .args .tables .now in
     let g : good bs ≡ false = sym (c .before .before .is-sound .ensures) ∙ not-true _ (c .before .if1 .taken) in
-    (c .pack .ensures ∙ refused-answer bs _ _ _ g, refused-bytes bs _ _ _ g (λ i. c .before .before .before .before .slice-known .given i .fits))
+    record { answer = c .pack .ensures ∙ refused-answer bs _ _ _ g; bytes = refused-bytes bs _ _ _ g (λ i. c .before .before .before .before .slice-known .given i .fits) }
 
 call-requires : tie.Need-call-requires
 call-requires c κs =
@@ -25,22 +25,24 @@ call-requires c κs =
 
 returns-2 : tie.Need-returns-2
 returns-2 c =
-    let at-slice-known = c .before .before .before .before .before .before .before .before in
-    let bs = at-slice-known .before .args .tables .now in
-    let g : good bs ≡ true = sym (c .before .before .before .before .before .before .is-sound .ensures) ∙ not-false _ (c .before .before .before .before .before .if1 .left) in
-    let byte : (i : ℕ) → getD bs i 0 < 256 = λ i. at-slice-known .slice-known .given i .fits in
-    let d = handed-on (at-slice-known .before .args .call) (at-slice-known .before .args .a) (at-slice-known .before .args .b) bs (c .before .before .before .call .last .0) (c .before .before .before .call .result) (at-slice-known .before .fits .a) (at-slice-known .before .fits .b) (c .before .before .before .call .ensures) in
-    (c .pack2 .ensures ∙ called-answer bs _ _ _ _ _ byte g d, called-bytes bs _ _ _ _ _ byte g d)
+    let at-is-sound = c .before .before .before .before .before .before .before in
+    let bs = at-is-sound .before .before .before .args .tables .now in
+    let g : good bs ≡ true = sym (at-is-sound .is-sound .ensures) ∙ not-false _ (c .before .before .before .before .before .before .if1 .left) in
+    let byte : (i : ℕ) → getD bs i 0 < 256 = λ i. at-is-sound .before .before .slice-known .given i .fits in
+    let d = handed-on (at-is-sound .before .before .before .args .call) (at-is-sound .before .before .before .args .a) (at-is-sound .before .before .before .args .b) bs (c .before .before .before .before .call .last .0) (c .before .before .before .before .call .result) (at-is-sound .before .before .before .fits .a) (at-is-sound .before .before .before .fits .b) (c .before .before .before .before .call .ensures) in
+    record { answer = c .pack2 .ensures ∙ called-answer bs _ _ _ _ _ byte g d; bytes = called-bytes bs _ _ _ _ _ byte g d }
 
 pub cottonsedge-call-spec : {M : Type 1} → statement M
 cottonsedge-call-spec =
     tie.close
     (tie.spec
     (λ c κs. search needs)
+    (λ c. search needs)
     (λ c κs. search needs)
     (λ c. search needs)
     returns
     call-requires
+    (λ c. search needs)
     (λ c κs. search needs)
     (λ c. search needs)
     returns-2)

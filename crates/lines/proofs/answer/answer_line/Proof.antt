@@ -39,7 +39,8 @@ returns c =
     let b : ℤ = told .1 .1 .0 in
     let fits-a : SFits w32 a = search needs in
     let fits-b : SFits w32 b = search needs in
-    rw (sym (c .before .before .before .before .before .before .before .read-line .ensures) ∙ c .before .before .before .before .before .n .given .1) (rw (toZ-ofZ w32 a fits-a, toZ-ofZ w32 b fits-b) at (c .before .before .cottonsedge-call .ensures))
+    let called = rw (toZ-ofZ w32 a fits-a, toZ-ofZ w32 b fits-b) at (c .before .before .cottonsedge-call .ensures) in
+    rw (sym (c .before .before .before .before .before .before .before .read-line .ensures) ∙ c .before .before .before .before .before .n .given .1) (called .answer, called .bytes)
 
 same-length-2 : tie.Need-same-length-2
 same-length-2 c = search needs

@@ -1,0 +1,97 @@
+-- Demand 1, of every result that the contract of a call allows. Assumes nothing.
+use Prim.Native.Nat.{_<_, ℕ}
+use native.Mathlib.Omega.{arith}
+use mathlib.Core.Bool.{false, true≢false}
+use mathlib.Core.List.{List}
+use mathlib.Core.Logic.{_≢_}
+use mathlib.Core.Path.{_∙_, _≡_, ap, refl, subst, sym}
+use mir.Syntax.{w32}
+use mir.Val.{ofZ}
+use Rattle.layout.specs.Bytes.{toBytes}
+use Rattle.promises.specs.Record.{Request, made}
+use Rattle.rules.specs.Answers.{numberOf, valueOf}
+use Rattle.rules.specs.declared.Answer.{Answer}
+use Rattle.rules.specs.declared.Answer.the-variants.{Done, Refused}
+use Rattle.soundness.specs.Good.{good}
+use Rattle.tables.specs.Counts.{CountsFit}
+use Rattle.tables.specs.Readers.{currentOf}
+use Rattle.tables.specs.Sound.{Sound}
+use Rattle.tables.specs.declared.Tables.{Tables}
+use Rattle.layout.proofs.Image.{bytes-back, stands-read}
+use Rattle.lists.proofs.Bools.{split}
+use Rattle.rules.proofs.Refusals.{Ranged, numbered-never-12, numbered-ranged, numbered-refused}
+use Rattle.cottonsedge.specs.Demands.{Allowed, Asked, Bytes, Demand1, Result}
+use Rattle.cottonsedge.specs.Entries.{answerOf, bytesAfter}
+use Rattle.cottonsedge.specs.Fields.{refusalField}
+use Rattle.cottonsedge.proofs.Calls.{call-bytes, call-packed, call-process, call-refusal, call-runs, call-value, value-fits}
+use Rattle.cottonsedge.proofs.Entry.{refused-answer, refused-bytes}
+use Rattle.cottonsedge.proofs.FieldLaws.{packed-small}
+use Rattle.cottonsedge.proofs.Standing.{good-formed, good-sound, sound-good}
+
+-- what the contract allows
+abbrev pub exact : List ℕ → Request → Result
+exact bs q = record { answer = answerOf bs (q .number) (q .a) (q .b); bytes = bytesAfter bs (q .number) (q .a) (q .b) }
+
+ranged-small : (r : Answer) → Ranged r → numberOf r < 15
+ranged-small (Done v) h = omega arith
+ranged-small (Refused n) h = omega arith
+
+-- Sound tables
+
+module _ {t : Tables} (S : Sound t) (F : CountsFit t) (q : Request) (k : Asked q) where
+  abbrev r : Answer
+  r = made t q .answer
+
+  small-number : numberOf r < 15
+  small-number = ranged-small r (numbered-ranged t (q .number) (q .a) (q .b))
+
+  refusal : refusalField (exact (toBytes t) q .answer) ≡ numberOf r
+  refusal = call-refusal S F (q .number) (q .a) (q .b) (k .arguments .a) (k .arguments .b)
+
+  nothing-done : (x : Answer) → r ≡ x → numberOf x ≢ 0 → (ofZ w32 (valueOf x) ≡ 0xffffffff) × (made t q .tables ≡ t)
+  nothing-done (Done v) e h = absurd (h refl)
+  nothing-done (Refused m) e h = (refl, numbered-refused t (q .number) (q .a) (q .b) m e)
+
+  not-12 : (x : Answer) → r ≡ x → numberOf x ≢ 12
+  not-12 (Done v) e h = omega arith
+  not-12 (Refused m) e h = numbered-never-12 t (q .number) (q .a) (q .b) (e ∙ ap Refused h)
+
+  sound-demand1 : Demand1 (toBytes t) (exact (toBytes t) q)
+  sound-demand1 =
+      let n = q .number in
+      let a = q .a in
+      let b = q .b in
+      let fa = k .arguments .a in
+      let fb = k .arguments .b in
+      let g = sound-good S F in
+      record {
+        small = rw (call-packed S F n a b) (packed-small r (currentOf (made t q .tables)) (value-fits S F n a b fa fb) (omega (arith, call-runs S F n a b)) (omega (arith, small-number)));
+        refused = rw (refusal, call-value S F n a b fa fb, call-bytes S F n a b) (λ h. let w = nothing-done r refl h in (w .0, ap toBytes (w .1)));
+        done = λ h. g;
+        unsound = λ h. absurd (true≢false (sym g ∙ h));
+        sound = λ h. rw (refusal, call-process S F n a b fa fb) ((λ e. omega (arith, small-number, e)), call-runs S F n a b);
+        never12 = rw refusal (not-12 r refl);
+      }
+
+-- Others
+
+unsound-demand1 : (bs : List ℕ) (q : Request) → Bytes bs → good bs ≡ false → Demand1 bs (exact bs q)
+unsound-demand1 bs q byte g =
+    rw (← refused-answer bs (q .number) (q .a) (q .b) g, ← refused-bytes bs (q .number) (q .a) (q .b) g byte)
+    record {
+      small = omega arith;
+      refused = λ h. (refl, refl);
+      done = λ h. absurd (omega arith);
+      unsound = λ h. (refl, refl);
+      sound = λ h. absurd (true≢false (sym h ∙ g));
+      never12 = λ h. omega arith;
+    }
+
+exact-demand1 : (bs : List ℕ) (q : Request) → Bytes bs → Asked q → Demand1 bs (exact bs q)
+exact-demand1 bs q byte k =
+    split (good bs)
+    (λ g. let wf = good-formed bs g in subst (λ (x : List ℕ). Demand1 x (exact x q)) (bytes-back bs byte wf) (sound-demand1 (good-sound bs g) (stands-read bs byte wf .held .fits) q k))
+    (unsound-demand1 bs q byte)
+
+pub demand1 : (bs : List ℕ) (q : Request) (x : Result) → Bytes bs → Asked q → Allowed bs q x → Demand1 bs x
+demand1 bs q x byte k c = rw (c .answer, c .bytes) (exact-demand1 bs q byte k)

@@ -1,0 +1,200 @@
+-- Each refusal number is given exactly when the paper's table (specs/Reasons) says, and at no other time. Assumes nothing.
+use Prim.Native.Nat.{ℕ, suc, _≤_, _<_}
+use native.Mathlib.Omega.{arith}
+use mathlib.Core.Bool.{Bool, true, false, not, _&&_, _||_, true≢false}
+use mathlib.Core.List.{List, [], _∷_, _++_, append-nil}
+use mathlib.Core.Logic.{_≢_, _↔_, _⊎_, inl, inr, ⊎-elim}
+use mathlib.Core.Path.{_≡_, refl, sym, ap, subst, _∙_}
+use lib.Dec.{eqb, ltb}
+use lib.IntN.{ℤ, pos, negsuc, natAbs}
+use lib.Signed.{_≤ℤ_, _<ℤ_, leZ, ltZ}
+use mir.Syntax.{w32}
+use mir.Val.{SFits}
+use borrow.Author.Tests.{eqb-true, eq-eqb, leb-true, ltb-true}
+use Rattle.lists.specs.Lists.{if_then_else_, isEmpty}
+use Rattle.lists.proofs.Bools.{not-true, not-false, split, either}
+use Rattle.lists.proofs.Exactly.{Tests, tests-or, tests-and, tests-not, tests-eqb, tests-ltb, tests-ltZ, tests-leZ}
+use Rattle.lists.proofs.RoundLaws.{none-found, found-none}
+use Rattle.tables.specs.declared.State.{State}
+use Rattle.tables.specs.declared.State.the-variants.{Free}
+use Rattle.tables.specs.declared.Tables.{Tables}
+use Rattle.tables.specs.Limits.{processLimit, semaphoreLimit, priorityLimit}
+use Rattle.tables.specs.States.{isFree, isCurrent, isReady, isSuspended}
+use Rattle.tables.specs.Readers.{stateOf, isUsed, countOf, currentOf}
+use Rattle.tables.specs.Sound.{Sound}
+use Rattle.tables.specs.Test.{soundNow}
+use Rattle.tables.specs.Counts.{CountsFit}
+use Rattle.tables.proofs.States.{is-free, is-current, is-ready, is-suspended}
+use Rattle.tables.proofs.TestLaws.{checked-sound, sound-checked}
+use Rattle.rules.specs.declared.Answer.the-variants.{Refused}
+use Rattle.rules.specs.declared.Outcome.{Outcome}
+use Rattle.rules.specs.Answers.{Check, _when_, refused, unless}
+use Rattle.rules.specs.Calls.{Call, Wait, Signal, MakeSemaphore, Delete, Reset, MakeProcess, Resume, Suspend, Kill, Yield, Count, below0, outside, largest, noSemaphore, notUsed, noCount, noProcess, notLive, nullProcess, freeSemaphores, freeSlots, checks, deed, finish, step}
+use Rattle.rules.specs.Enter.{isZero, spare, callOf, numbered, enter}
+use Rattle.rules.specs.Reasons.{Reason, Exactly, FirstOf, noSuchSemaphore, semaphoreFree, countBelow0, allUsed, countLargest, noSuchProcess, slotFree, allLive, notSuspended, notRunnable, process0, process0Waits, noSuchPriority, noSuchCall, spareArgument, notSound, ownReasons, numberedReasons, reasons}
+use Rattle.rules.proofs.Refusals.{Ranged, finish-done, numbered-ranged, numbered-never-12}
+
+-- Number by number
+
+tests-below0 : (a : ℤ) → Tests (below0 a) (a <ℤ pos 0)
+tests-below0 (pos n) = (λ e. absurd (true≢false (sym e)), λ w. let k : n < 0 = ltb-true n 0 (tests-ltZ (pos n) (pos 0) .1 w) in absurd (omega arith))
+tests-below0 (negsuc n) = (λ e. record { lt = tt }, λ w. refl)
+
+tests-outside : (limit : ℕ) (a : ℤ) → Tests (outside limit a) ((a <ℤ pos 0) ⊎ (pos limit ≤ℤ a))
+tests-outside limit a = tests-or (below0 a) (leZ (pos limit) a) (tests-below0 a) (tests-leZ (pos limit) a)
+
+pub given-1 : (a : ℤ) → Exactly (noSemaphore a) (noSuchSemaphore a)
+given-1 a = (refl, tests-outside semaphoreLimit a)
+
+pub given-2 : (t : Tables) (a : ℤ) → Exactly (notUsed t a) (semaphoreFree t a)
+given-2 t a = (refl, (not-true (isUsed t (natAbs a)), ap not))
+
+pub given-3 : (a : ℤ) → Exactly (noCount a) (countBelow0 a)
+given-3 a = (refl, tests-below0 a)
+
+pub given-4 : {t : Tables} → Sound t → Exactly (4 when isEmpty (freeSemaphores t)) (allUsed t)
+given-4 {t} S = (refl, (λ e s l. not-false (isUsed t s) (none-found unused semaphoreLimit from k e s l), λ u. found-none unused semaphoreLimit from k (λ s l. ap not (u s l))))
+  where
+    unused : ℕ → Bool
+    unused s = not (isUsed t s)
+
+    from : ℕ
+    from = t .«next_semaphore»
+
+    k : from < semaphoreLimit
+    k = S .laid .cursors .0
+
+-- of counts of 32 bits
+pub given-5 : (t : Tables) (a : ℤ) → SFits w32 (countOf t (natAbs a)) → Exactly (5 when leZ largest (countOf t (natAbs a))) (countLargest t a)
+given-5 t a f = (refl, go (countOf t (natAbs a)) f)
+  where
+    go : (c : ℤ) → SFits w32 c → Tests (leZ largest c) (c ≡ pos 2147483647)
+    go (pos n) f = (λ e. let k : 2147483647 ≤ n = leb-true 2147483647 n e in let m : n < 2147483648 = f .sfits in ap pos (omega arith), ap (leZ largest))
+    go (negsuc n) f = (λ e. absurd (true≢false (sym e)), ap (leZ largest))
+
+pub given-6 : (a : ℤ) → Exactly (noProcess a) (noSuchProcess a)
+given-6 a = (refl, tests-outside processLimit a)
+
+pub given-7 : (t : Tables) (a : ℤ) → Exactly (notLive t a) (slotFree t a)
+given-7 t a = (refl, (is-free (stateOf t (natAbs a)), ap isFree))
+
+-- slot 0, where the search may begin, is never free
+pub given-8 : {t : Tables} → Sound t → Exactly (8 when isEmpty (freeSlots t)) (allLive t)
+given-8 {t} S = (refl, (λ e p b l f. true≢false (sym (ap isFree f) ∙ none-found free processLimit from k e p l), λ n. found-none free processLimit from k (live n)))
+  where
+    free : ℕ → Bool
+    free p = isFree (stateOf t p)
+
+    from : ℕ
+    from = t .«next_process»
+
+    k : from < processLimit
+    k = S .laid .cursors .1
+
+    zero-live : stateOf t 0 ≢ Free
+    zero-live e = true≢false (sym (S .running .zero) ∙ ap (λ (st : State). isCurrent st || isReady st) e)
+
+    live : allLive t .holds → (p : ℕ) → p < processLimit → free p ≡ false
+    live n p l =
+        split (free p)
+        (λ e. let f : stateOf t p ≡ Free = is-free (stateOf t p) e in absurd (either p 0 (λ z. zero-live (rw z at f)) (λ z. n p (omega arith) l f)))
+        (λ e. e)
+
+pub given-9-resume : (t : Tables) (a : ℤ) → Exactly (9 when not (isSuspended (stateOf t (natAbs a)))) (notSuspended t a)
+given-9-resume t a = let st = stateOf t (natAbs a) in (refl, tests-not (isSuspended st) (is-suspended st, ap isSuspended))
+
+pub given-9-suspend : (t : Tables) (a : ℤ) → Exactly (9 when not (isReady (stateOf t (natAbs a)) || isCurrent (stateOf t (natAbs a)))) (notRunnable t a)
+given-9-suspend t a =
+    let st = stateOf t (natAbs a) in
+    (refl, tests-not (isReady st || isCurrent st) (tests-or (isReady st) (isCurrent st) (is-ready st, ap isReady) (is-current st, ap isCurrent)))
+
+pub given-10 : (a : ℤ) → Exactly (nullProcess a) (process0 a)
+given-10 (pos n) = (refl, (λ e. ap pos (eqb-true n 0 e), λ e. eq-eqb n 0 (ap natAbs e)))
+given-10 (negsuc n) = (refl, (λ e. let k : suc n ≡ 0 = eqb-true (suc n) 0 e in absurd (omega arith), λ e. eq-eqb (suc n) 0 (ap natAbs e)))
+
+pub given-10-wait : (t : Tables) (a : ℤ) → Exactly (10 when eqb (currentOf t) 0 && leZ (countOf t (natAbs a)) (pos 0)) (process0Waits t a)
+given-10-wait t a = let c = countOf t (natAbs a) in (refl, tests-and (eqb (currentOf t) 0) (leZ c (pos 0)) (tests-eqb (currentOf t) 0) (tests-leZ c (pos 0)))
+
+pub given-11 : (a : ℤ) → Exactly (11 when ltZ a (pos 1) || ltZ (pos priorityLimit) a) (noSuchPriority a)
+given-11 a = (refl, tests-or (ltZ a (pos 1)) (ltZ (pos priorityLimit) a) (tests-ltZ a (pos 1)) (tests-ltZ (pos priorityLimit) a))
+
+pub given-13 : (n : ℕ) → Exactly (13 when ltb n 1 || ltb 11 n) (noSuchCall n)
+given-13 n = (refl, tests-or (ltb n 1) (ltb 11 n) (tests-ltb n 1) (tests-ltb 11 n))
+
+tests-zero : (a : ℤ) → Tests (isZero a) (a ≡ pos 0)
+tests-zero (pos n) = (λ e. ap pos (eqb-true n 0 e), ap isZero)
+tests-zero (negsuc n) = (λ e. absurd (true≢false (sym e)), ap isZero)
+
+pub given-14 : (n : ℕ) (a b : ℤ) → Exactly (14 when spare n a b) (spareArgument n a b)
+given-14 n a b = (
+  refl,
+  tests-or (not (isZero b) && not (eqb n 5)) (not (isZero a) && eqb n 10)
+      (tests-and (not (isZero b)) (not (eqb n 5)) (tests-not (isZero b) (tests-zero b)) (tests-not (eqb n 5) (tests-eqb n 5)))
+      (tests-and (not (isZero a)) (eqb n 10) (tests-not (isZero a) (tests-zero a)) (tests-eqb n 10)),
+)
+
+-- A call's checks are its reasons, in the same order
+
+abbrev AllExactly : List Check → List Reason → Type 0
+AllExactly [] [] = Unit
+AllExactly [] (r ∷ rs) = ⊥
+AllExactly (c ∷ cs) [] = ⊥
+AllExactly (c ∷ cs) (r ∷ rs) = Exactly c r × AllExactly cs rs
+
+checks-given : {t : Tables} → Sound t → CountsFit t → (c : Call) → AllExactly (checks t c) (ownReasons t c)
+checks-given {t} S F (Wait a) = (given-1 a, (given-2 t a, (given-10-wait t a, tt)))
+checks-given {t} S F (Signal a) = (given-1 a, (given-2 t a, (given-5 t a (F (natAbs a)), tt)))
+checks-given S F (MakeSemaphore a) = (given-3 a, (given-4 S, tt))
+checks-given {t} S F (Delete a) = (given-1 a, (given-2 t a, tt))
+checks-given {t} S F (Reset a b) = (given-3 b, (given-1 a, (given-2 t a, tt)))
+checks-given S F (MakeProcess a) = (given-11 a, (given-8 S, tt))
+checks-given {t} S F (Resume a) = (given-6 a, (given-7 t a, (given-9-resume t a, tt)))
+checks-given {t} S F (Suspend a) = (given-6 a, (given-10 a, (given-7 t a, (given-9-suspend t a, tt))))
+checks-given {t} S F (Kill a) = (given-6 a, (given-10 a, (given-7 t a, tt)))
+checks-given S F Yield = tt
+checks-given {t} S F (Count a) = (given-1 a, (given-2 t a, tt))
+
+-- one check more in front is one reason more in front
+check-exactly : (t : Tables) (b : Bool) (m n : ℕ) (o : Outcome) {P Q : Type 0} → Tests b P → (o .answer ≡ Refused n) ↔ Q → ((if b then refused m t else o) .answer ≡ Refused n) ↔ (((m ≡ n) × P) ⊎ ((¬ P) × Q))
+check-exactly t true m n o p q = (λ e. inl (cc, p .0 refl), ⊎-elim (λ w. ap Refused (w .0)) (λ w. absurd (w .0 (p .0 refl))))
+check-exactly t false m n o p q = (λ e. inr (λ w. true≢false (sym (p .1 w)), q .0 e), ⊎-elim (λ w. absurd (true≢false (sym (p .1 (w .1))))) (λ w. q .1 (w .1)))
+
+unless-exactly : (t : Tables) (cs : List Check) (rs later : List Reason) (o : Outcome) (n : ℕ) → AllExactly cs rs → (o .answer ≡ Refused n) ↔ FirstOf later n → (unless t cs o .answer ≡ Refused n) ↔ FirstOf (rs ++ later) n
+unless-exactly t [] [] later o n g h = h
+unless-exactly t [] (r ∷ rs) later o n g h = absurd g
+unless-exactly t (c ∷ cs) [] later o n g h = absurd g
+unless-exactly t (c ∷ cs) (r ∷ rs) later o n ((e, w), g) h = rw e (check-exactly t (c .holds) (r .number) n (unless t cs o) w (unless-exactly t cs rs later o n g h))
+
+-- What is given
+
+module _ {t : Tables} (S : Sound t) (F : CountsFit t) where
+  -- a call is refused with the number of the first of its reasons that holds, and with no other
+  pub step-exactly : (c : Call) (n : ℕ) → (step t c .answer ≡ Refused n) ↔ FirstOf (ownReasons t c) n
+  unfolding step
+  step-exactly c n = rw (append-nil (ownReasons t c)) at (unless-exactly t (checks t c) (ownReasons t c) [] (finish (deed t c)) n (checks-given S F c) (finish-done (deed t c) n, λ w. absurd w))
+
+  pub numbered-exactly : (m : ℕ) (a b : ℤ) (n : ℕ) → (numbered t m a b .answer ≡ Refused n) ↔ FirstOf (numberedReasons t m a b) n
+  unfolding numbered
+  numbered-exactly m a b n =
+      unless-exactly t ((13 when ltb m 1 || ltb 11 m) ∷ (14 when spare m a b) ∷ []) (noSuchCall m ∷ spareArgument m a b ∷ []) (ownReasons t (callOf m a b)) (step t (callOf m a b)) n
+      (given-13 m, (given-14 m a b, tt)) (step-exactly (callOf m a b) n)
+
+pub given-15 : (t : Tables) (m : ℕ) (a b : ℤ) → (enter t m a b .outcome .answer ≡ Refused 15) ↔ notSound t .holds
+unfolding enter
+given-15 t m a b =
+    split (soundNow t)
+    (λ e. rw e (λ r. let k = subst Ranged r (numbered-ranged t m a b) in absurd (omega arith), λ k. absurd (k (checked-sound e))))
+    (λ e. rw e (λ r S. true≢false (sym (sound-checked S) ∙ e), λ k. refl))
+
+-- every call, by its number: 15, 13, 14, then the call's own
+pub given-exactly : (t : Tables) → CountsFit t → (m : ℕ) (a b : ℤ) (n : ℕ) → (enter t m a b .outcome .answer ≡ Refused n) ↔ FirstOf (reasons t m a b) n
+unfolding enter
+given-exactly t F m a b n =
+    split (soundNow t)
+    (λ e. let S = checked-sound e in rw e (check-exactly t false 15 n (numbered t m a b) (λ k. absurd (true≢false (sym k)), λ k. absurd (k S)) (numbered-exactly S F m a b n)))
+    (λ e. let k : ¬ Sound t = λ S. true≢false (sym (sound-checked S) ∙ e) in rw e (λ r. inl (cc, k), ⊎-elim (λ w. ap Refused (w .0)) (λ w. absurd (w .0 k))))
+
+-- 12 is for a line of the bench, and no call gives it
+pub never-12 : (t : Tables) (m : ℕ) (a b : ℤ) → enter t m a b .outcome .answer ≡ Refused 12 → ⊥
+unfolding enter
+never-12 t m a b = split (soundNow t) (λ e. rw e (numbered-never-12 t m a b)) (λ e. rw e (λ r. let k : _≡_ {A = ℕ} 15 12 = cc in omega arith))
