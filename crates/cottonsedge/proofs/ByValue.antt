@@ -3,37 +3,31 @@ use Prim.Native.Nat.{_+_, _<_, ℕ}
 use native.Mathlib.Omega.{arith}
 use mathlib.Core.Bool.{false, true, true≢false}
 use mathlib.Core.List.{List}
-use mathlib.Core.Path.{_∙_, _≡_, ap, refl, subst, sym}
+use mathlib.Core.Path.{_∙_, _≡_, refl, subst, sym}
 use lib.IntN.{ℤ}
 use lib.ListN.{length}
 use borrow.Author.Tests.{le-ltb}
 use Rattle.layout.specs.Bytes.{fromBytes, stateByte, toBytes}
 use Rattle.layout.specs.Offsets.{orderAt, statesAt}
 use Rattle.layout.specs.Stands.{Does, Held, Named, Stands}
-use Rattle.promises.specs.Demand.{running}
-use Rattle.promises.specs.Record.{after}
 use Rattle.rules.specs.Answers.{refused}
 use Rattle.rules.specs.Enter.{enter, nobody, numbered}
-use Rattle.rules.specs.declared.Answer.{Answer}
 use Rattle.soundness.specs.Good.{good}
-use Rattle.soundness.specs.Tallies.{sumOf}
 use Rattle.tables.specs.Limits.{processLimit, semaphoreLimit}
-use Rattle.tables.specs.Readers.{currentOf, stateOf}
+use Rattle.tables.specs.Readers.{stateOf}
 use Rattle.tables.specs.Sound.{Sound}
-use Rattle.tables.specs.States.{isCurrent}
 use Rattle.tables.specs.Test.{soundNow}
 use Rattle.tables.specs.declared.State.{State}
 use Rattle.tables.specs.declared.State.the-variants.{Current, Free, Ready, Suspended, Waiting}
 use Rattle.tables.specs.declared.Tables.{Tables}
 use Rattle.tables.specs.Counts.{CountsFit}
-use Rattle.kernel.specs.Meets.{Meets}
+use Rattle.kernel.specs.Steps.{Meets, told}
+use Rattle.kernel.specs.declared.step.Told.{Told}
 use Rattle.layout.proofs.Image.{byte-at, formed-place, formed-state, stands-is, stands-made, tables-back}
 use Rattle.layout.proofs.Regions.{place-byte, state-byte}
 use Rattle.lists.proofs.Bools.{below?, split}
-use Rattle.rules.proofs.Kept.{sound-numbered}
 use Rattle.tables.proofs.TestLaws.{checked-sound, sound-checked}
-use Rattle.tables.proofs.Sentences.{current-below}
-use Rattle.cottonsedge.proofs.Standing.{good-formed, good-sound, running-is, sound-good}
+use Rattle.cottonsedge.proofs.Standing.{good-formed, good-sound, sound-good}
 
 module _ (t : Tables) (n : ℕ) (a b : ℤ) (slots : length (t .processes) ≡ processLimit) (entries : length (t .semaphores) ≡ semaphoreLimit) (places : length (t .order) ≡ processLimit) (fits : CountsFit t) where
   pub value-unsound : good (toBytes t) ≡ false → record { outcome = refused 15 t; running = nobody } ≡ enter t n a b
@@ -63,20 +57,11 @@ module _ (t : Tables) (n : ℕ) (a b : ℤ) (slots : length (t .processes) ≡ p
     sound : Sound t
     sound = subst Sound (tables-back t held) (good-sound (toBytes t) g)
 
-    module _ (after : List ℕ) (r : Answer) (c : ℕ) (d : Meets (λ t. numbered t n a b) (toBytes t) after r) (e : c ≡ sumOf (fromBytes after) isCurrent) where
-      did : (r ≡ numbered t n a b .answer) × Stands (numbered t n a b .tables) after
+    module _ (after : List ℕ) (r : Told) (d : Meets (λ t. numbered t n a b) (toBytes t) after r) where
+      did : (r ≡ told (numbered t n a b)) × Stands (numbered t n a b .tables) after
       unfolding Meets Does
       did = d t (stands-made t held) sound
 
-      left : fromBytes after ≡ numbered t n a b .tables
-      left = stands-is (numbered t n a b .tables) after (did .1)
-
-      runs : c ≡ currentOf (numbered t n a b .tables)
-      runs = e ∙ ap (λ (x : Tables). sumOf x isCurrent) left ∙ running-is (sound-numbered sound n a b)
-
-      pub value-small : c < processLimit
-      value-small = subst (λ (p : ℕ). p < processLimit) (sym runs) (current-below (sound-numbered sound n a b))
-
-      pub value-called : record { outcome = record { tables = fromBytes after; answer = r }; running = c } ≡ enter t n a b
+      pub value-called : record { outcome = record { tables = fromBytes after; answer = r .answer }; running = r .running } ≡ enter t n a b
       unfolding enter
-      value-called = rw (left, did .0, runs) (sym (rw (sound-checked sound)))
+      value-called = rw (stands-is (numbered t n a b .tables) after (did .1), did .0) (sym (rw (sound-checked sound)))

@@ -2,33 +2,29 @@
 use Prim.Native.Nat.{_<_, ℕ}
 use mathlib.Core.Bool.{false, true}
 use mathlib.Core.List.{List}
-use mathlib.Core.Path.{_∙_, _≡_, ap, subst, sym}
+use mathlib.Core.Path.{_∙_, _≡_, subst, sym}
 use lib.IntN.{ℤ}
-use lib.ListN.{getD, length}
+use lib.ListN.{getD}
 use mir.Syntax.{w32}
 use mir.Val.{SFits, ofZ, toZ}
 use mir.ValLaws.{toZ-ofZ}
 use Rattle.layout.specs.Bytes.{fromBytes, toBytes, wellFormed}
-use Rattle.layout.specs.Offsets.{size}
 use Rattle.layout.specs.Stands.{Does, Stands}
 use Rattle.rules.specs.Enter.{enter, nobody, numbered}
-use Rattle.rules.specs.declared.Answer.{Answer}
 use Rattle.rules.specs.declared.Answer.the-variants.{Refused}
 use Rattle.rules.specs.declared.Outcome.{Outcome}
 use Rattle.soundness.specs.Good.{good}
-use Rattle.soundness.specs.Tallies.{sumOf}
 use Rattle.tables.specs.Readers.{currentOf}
-use Rattle.tables.specs.States.{isCurrent}
 use Rattle.tables.specs.Test.{soundNow}
 use Rattle.tables.specs.declared.Tables.{Tables}
-use Rattle.kernel.specs.Meets.{Meets}
-use Rattle.layout.proofs.Image.{bytes-back, same-bytes, stands-is, stands-made, stands-read}
+use Rattle.kernel.specs.Steps.{Meets, told}
+use Rattle.kernel.specs.declared.step.Told.{Told}
+use Rattle.layout.proofs.Image.{bytes-back, same-bytes, stands-made, stands-read}
 use Rattle.lists.proofs.Bools.{split}
-use Rattle.rules.proofs.Kept.{sound-numbered}
 use Rattle.rules.proofs.Numbers.{enter-sound, enter-unsound}
 use Rattle.cottonsedge.specs.Entries.{answerOf, bootAnswer, booted, bytesAfter, checkAnswer}
 use Rattle.cottonsedge.specs.Fields.{packed}
-use Rattle.cottonsedge.proofs.Standing.{good-formed, good-sound, running-is}
+use Rattle.cottonsedge.proofs.Standing.{good-formed, good-sound}
 
 -- Bytes that aren't good come back as they came, answered 15
 
@@ -47,7 +43,7 @@ module _ (bs : List ℕ) (n : ℕ) (a b : ℤ) (g : good bs ≡ false) where
 
 -- Good bytes are called by the rules
 
-module _ (bs after : List ℕ) (n : ℕ) (a b : ℤ) (r : Answer) (byte : (i : ℕ) → getD bs i 0 < 256) (g : good bs ≡ true)
+module _ (bs after : List ℕ) (n : ℕ) (a b : ℤ) (r : Told) (byte : (i : ℕ) → getD bs i 0 < 256) (g : good bs ≡ true)
     (d : Meets (λ t. numbered t n a b) bs after r) where
   abbrev t : Tables
   t = fromBytes bs
@@ -55,25 +51,20 @@ module _ (bs after : List ℕ) (n : ℕ) (a b : ℤ) (r : Answer) (byte : (i : �
   abbrev o : Outcome
   o = numbered t n a b
 
-  did : (r ≡ o .answer) × Stands (o .tables) after
+  did : (r ≡ told o) × Stands (o .tables) after
   unfolding Meets Does
   did = d t (stands-read bs byte (good-formed bs g)) (good-sound bs g)
 
   entered : (enter t n a b .outcome ≡ o) × (enter t n a b .running ≡ currentOf (o .tables))
   entered = enter-sound t a b n (good-sound bs g)
 
-  pub called-long : length after ≡ size
-  called-long = did .1 .long
-
   pub called-bytes : after ≡ bytesAfter bs n a b
   unfolding bytesAfter
   called-bytes = same-bytes (o .tables) after (toBytes (o .tables)) (did .1) (stands-made (o .tables) (did .1 .held)) ∙ sym (rw (good-formed bs g, entered .0))
 
-  pub called-answer : (c : ℕ) → c ≡ sumOf (fromBytes after) isCurrent → packed r c ≡ answerOf bs n a b
+  pub called-answer : packed (r .answer) (r .running) ≡ answerOf bs n a b
   unfolding answerOf
-  called-answer c e =
-      let k : c ≡ currentOf (o .tables) = e ∙ ap (λ (x : Tables). sumOf x isCurrent) (stands-is (o .tables) after (did .1)) ∙ running-is (sound-numbered (good-sound bs g) n a b) in
-      rw (k, did .0) (sym (rw (good-formed bs g, entered .0, entered .1)))
+  called-answer = rw (did .0) (sym (rw (good-formed bs g, entered .0, entered .1)))
 
 -- What the other two entries answer and leave is one function of what was lent
 
@@ -84,7 +75,7 @@ pub check-determined : (bs : List ℕ) (r r′ : ℕ) → r ≡ checkAnswer bs �
 check-determined bs r r′ p q = p ∙ sym q
 
 -- Arguments that were handed on, read back from their bits
-pub handed-on : (n : ℕ) (a b : ℤ) (bs after : List ℕ) (r : Answer) → SFits w32 a → SFits w32 b → Meets (λ t. numbered t n (toZ w32 (ofZ w32 a)) (toZ w32 (ofZ w32 b))) bs after r → Meets (λ t. numbered t n a b) bs after r
+pub handed-on : (n : ℕ) (a b : ℤ) (bs after : List ℕ) (r : Told) → SFits w32 a → SFits w32 b → Meets (λ t. numbered t n (toZ w32 (ofZ w32 a)) (toZ w32 (ofZ w32 b))) bs after r → Meets (λ t. numbered t n a b) bs after r
 handed-on n a b bs after r fa fb d =
     subst (λ (z : ℤ). Meets (λ t. numbered t n a z) bs after r) (toZ-ofZ w32 b fb)
     (subst (λ (z : ℤ). Meets (λ t. numbered t n z (toZ w32 (ofZ w32 b))) bs after r) (toZ-ofZ w32 a fa) d)

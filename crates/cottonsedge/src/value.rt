@@ -8,7 +8,6 @@ use rules::Answer;
 use rules::Outcome;
 use rules::Reply;
 use soundness::check::is_sound;
-use soundness::running::current;
 use tables::Tables;
 ghost use mathlib.Core.Path.{_≡_};
 ghost use Rattle.rules.specs.Enter.{enter};
@@ -28,12 +27,15 @@ pub fn call(tables: Tables, number: u8, a: i32, b: i32) -> Reply
             running: UNKNOWN,
         };
     }
-    let answer = enter::call(&mut bytes, number, a, b);
-    let running = current(&bytes) as u8;
+    let told = enter::call(&mut bytes, number, a, b);
+    let answer = told.answer;
     let left = decode(&bytes);
     let outcome = Outcome {
         tables: left,
         answer,
     };
-    Reply { outcome, running }
+    Reply {
+        outcome,
+        running: told.running,
+    }
 }

@@ -1,7 +1,6 @@
 -- What the code of every call is shown with. Assumes nothing.
-use Prim.Native.Nat.{_<_, ℕ}
+use Prim.Native.Nat.{ℕ}
 use native.Mathlib.Omega.{arith}
-use mathlib.Core.Bool.{false, true}
 use mathlib.Core.List.{List, [], _∷_}
 use mathlib.Core.Path.{_∙_, _≡_, ap, refl, subst, sym}
 use lib.IntN.{pos, ℤ}
@@ -9,89 +8,98 @@ use lib.ListN.{drop, length}
 use borrow.Author.Tests.{eq-eqb, lt-leb}
 use Rattle.layout.specs.Stands.{Does, Stands, Tells}
 use Rattle.lists.specs.Lists.{first, firstOr}
-use Rattle.rules.specs.Answers.{Check, done, refused, unless}
-use Rattle.rules.specs.Calls.{Call, Count, Delete, Reset, below0, checks, deed, finish, noProcess, noSemaphore, notUsed, nullProcess, release, step}
-use Rattle.rules.specs.declared.Answer.{Answer}
-use Rattle.rules.specs.declared.Answer.the-variants.{Done, Refused}
+use Rattle.rules.specs.Answers.{Check, refused, unless}
+use Rattle.rules.specs.Calls.{Call, Count, Yield, checks, deed, finish, noProcess, noSemaphore, notUsed, nullProcess, step}
+use Rattle.rules.specs.declared.Answer.the-variants.{Done as AnswerDone, Refused as AnswerRefused}
 use Rattle.rules.specs.declared.Outcome.{Outcome}
+use Rattle.scheduling.specs.Index.{indexBelow}
+use Rattle.scheduling.specs.Row.{found}
+use Rattle.scheduling.specs.Running.{Only, Reschedules}
+use Rattle.scheduling.specs.declared.index.Index.the-variants.{At, Outside}
 use Rattle.tables.specs.Limits.{processLimit, semaphoreLimit}
-use Rattle.tables.specs.Readers.{countOf, currentOf, currents, freeSemaphore, isUsed}
+use Rattle.tables.specs.Readers.{countOf, currents}
 use Rattle.tables.specs.Sound.{Sound}
 use Rattle.tables.specs.declared.Tables.{Tables}
-use Rattle.kernel.specs.Arguments.{Chosen, indexBelow}
-use Rattle.kernel.specs.Meets.{Meets}
-use Rattle.kernel.specs.Row.{found}
-use Rattle.kernel.specs.declared.index.Index.the-variants.{At, Outside}
+use Rattle.kernel.specs.Steps.{Ends, Leads, Meets, Runs, told}
+use Rattle.kernel.specs.Target.{Chosen}
+use Rattle.kernel.specs.declared.step.Step.{Step}
+use Rattle.kernel.specs.declared.step.Step.the-variants.{Done, Refused, Switches}
+use Rattle.kernel.specs.declared.step.Told.{Told}
 use Rattle.kernel.specs.declared.target.Target.the-variants.{Refusal, Used}
-use Rattle.kernel.proofs.Arguments.{no-number, number}
-use Rattle.kernel.proofs.Found.{line-current, told-nobody, told-somebody}
+use Rattle.scheduling.proofs.Found.{line-current, told-nobody, told-somebody}
+use Rattle.scheduling.proofs.IndexLaws.{no-number, number}
+use Rattle.scheduling.proofs.ScheduleLaws.{only-runs}
+use Rattle.kernel.proofs.RunningLaws.{still}
+
+-- The end of a call
+
+module _ (c : ℕ) (s : Step) (a : List ℕ) where
+  pub end-refused : (n : ℕ) → s ≡ Refused n → Ends c s a a (record { answer = AnswerRefused n; running = c })
+  unfolding Ends
+  end-refused n is t st o = rw is (λ S. (ap (λ (p : ℕ). record { answer = AnswerRefused n; running = p }) (only-runs c t o S), st))
+
+  pub end-done : (v w : ℤ) → w ≡ v → s ≡ Done v → Ends c s a a (record { answer = AnswerDone w; running = c })
+  unfolding Ends
+  end-done v w k is t st o = rw (is, k) (λ S. (ap (λ (p : ℕ). record { answer = AnswerDone v; running = p }) (only-runs c t o S), st))
+
+  pub end-switches : (v w : ℤ) (b : List ℕ) (p : ℕ) → w ≡ v → s ≡ Switches v → Reschedules c a b p → Ends c s a b (record { answer = AnswerDone w; running = p })
+  unfolding Ends Reschedules
+  end-switches v w b p k is run t st o = rw (is, k) (λ S. let r = run t st o in (ap (λ (q : ℕ). record { answer = AnswerDone v; running = q }) (r .1 S), r .0))
+
+-- a call that `c` makes, then its end
+pub leads-end : (rule : Tables → Outcome) (c : ℕ) (s : Step) (x y z : List ℕ) (r : Told) → ((t : Tables) → Sound t → Sound (rule t .tables)) → Runs c x → Leads rule x y s → Ends c s y z r → Meets rule x z r
+unfolding Leads Ends Meets Does
+leads-end rule c s x y z r keeps runs lead end t st S =
+    let w = lead t st S in
+    let e = end (w .0) (w .2) (subst (λ (p : ℕ). Only p (w .0)) (sym (runs t st S)) (w .3)) (subst (λ (o : Outcome). Sound (o .tables)) (w .1) (keeps t S)) in
+    (e .0 ∙ sym (ap told (w .1)), subst (λ (o : Outcome). Stands (o .tables) z) (sym (w .1)) (e .1))
+
+-- who is found to be current
+pub found-runs : (c : ℕ) (bs : List ℕ) → Tells (found 1) bs c → Runs c bs
+unfolding firstOr
+found-runs c bs told t st S = ap first (sym (sym (line-current t) ∙ told-somebody 1 c bs told t st somebody .2))
+  where
+    somebody : c ≡ processLimit → ⊥
+    somebody e =
+        let none : currents t ≡ [] = sym (line-current t) ∙ told-nobody 1 c bs told t st e in
+        let one : length (currents t) ≡ 1 = S .running .one in
+        let zero : length (currents t) ≡ 0 = ap length none in
+        omega arith
+
+-- Branches
 
 -- a rule by another name
-pub alike : (f g : Tables → Outcome) (a b : List ℕ) (r : Answer) → ((t : Tables) → Stands t a → Sound t → f t ≡ g t) → Meets g a b r → Meets f a b r
-unfolding Meets Does
-alike f g a b r e m t st S = let w = m t st S in (w .0 ∙ sym (ap (λ (o : Outcome). o .answer) (e t st S)), subst (λ (o : Outcome). Stands (o .tables) b) (sym (e t st S)) (w .1))
+pub alike : (f g : Tables → Outcome) (a b : List ℕ) (r : Step) → ((t : Tables) → Stands t a → f t ≡ g t) → Leads g a b r → Leads f a b r
+unfolding Leads
+alike f g a b r e m t st S = let w = m t st S in (w .0, e t st ∙ w .1, w .2, w .3)
 
--- a branch that refuses, and one that is done
-pub refuses : (f : Tables → Outcome) (n : ℕ) (bs : List ℕ) → ((t : Tables) → Stands t bs → Sound t → f t ≡ refused n t) → Meets f bs bs (Refused n)
-unfolding Meets Does
-refuses f n bs e = alike f (refused n) bs bs (Refused n) e (λ t st S. (refl, st))
+pub refuses : (f : Tables → Outcome) (n : ℕ) (bs : List ℕ) → ((t : Tables) → Stands t bs → Sound t → f t ≡ refused n t) → Leads f bs bs (Refused n)
+unfolding Leads
+refuses f n bs e t st S = (t, e t st S, st, still S t refl)
 
-pub does : (f : Tables → Outcome) (v : ℤ) (a b : List ℕ) → ((t : Tables) → Stands t a → Sound t → (u : Tables) × (f t ≡ done v u) × Stands u b) → Meets f a b (Done v)
-unfolding Meets Does
-does f v a b e t st S = let w = e t st S in (sym (ap (λ (o : Outcome). o .answer) (w .1)), subst (λ (o : Outcome). Stands (o .tables) b) (sym (w .1)) (w .2))
+pub yield-follows : (bs : List ℕ) → Leads (λ t. step t Yield) bs bs (Switches (pos 1))
+unfolding Leads step
+yield-follows bs t st S = (t, refl, st, still S t refl)
 
 -- Calls on a semaphore: the first two checks
 
-module _ (a : ℤ) (bs : List ℕ) (n : ℕ) (c : Chosen a bs (Refusal n)) where
-  pub semaphore-refused : (call : Call) → ((t : Tables) → checks t call ≡ noSemaphore a ∷ notUsed t a ∷ drop 2 (checks t call)) → Meets (λ t. step t call) bs bs (Refused n)
-  unfolding step
-  semaphore-refused call e = refuses (λ t. step t call) n bs (λ t st S. ap (λ (cs : List Check). unless (λ m. refused m t) cs (finish (deed t call))) (e t) ∙ c t st (drop 2 (checks t call)) (finish (deed t call)))
+pub semaphore-refused : (a : ℤ) (bs : List ℕ) (n : ℕ) → Chosen a bs (Refusal n) → (call : Call) → ((t : Tables) → checks t call ≡ noSemaphore a ∷ notUsed t a ∷ drop 2 (checks t call)) → Leads (λ t. step t call) bs bs (Refused n)
+unfolding step
+semaphore-refused a bs n c call e = refuses (λ t. step t call) n bs (λ t st S. ap (λ (cs : List Check). unless (λ m. refused m t) cs (finish (deed t call))) (e t) ∙ c t st (drop 2 (checks t call)) (finish (deed t call)))
 
-  -- reset first checks the count
-  pub reset-refused : (v : ℤ) → below0 v ≡ false → Meets (λ t. step t (Reset a v)) bs bs (Refused n)
-  unfolding step
-  reset-refused v h = refuses (λ t. step t (Reset a v)) n bs (λ t st S. rw h (c t st [] (finish (deed t (Reset a v)))))
-
-module _ (z : ℤ) (s : ℕ) (a b : List ℕ) (r : Answer) (c : Chosen z a (Used s)) where
-  pub used-goes : (call : ℤ → Call) → (Tells (λ t. isUsed t s) a true → Meets (λ t. step t (call (pos s))) a b r) → Meets (λ t. step t (call z)) a b r
-  used-goes call m = subst (λ (x : ℤ). Meets (λ t. step t (call x)) a b r) (sym (c .0)) (m (c .2))
-
-  pub used-delete : Meets (λ t. finish (release t s freeSemaphore)) a b r → Meets (λ t. step t (Delete z)) a b r
-  unfolding step Tells
-  used-delete m = used-goes Delete (λ u. alike (λ t. step t (Delete (pos s))) (λ t. finish (release t s freeSemaphore)) a b r (λ t st S. rw (lt-leb semaphoreLimit s (c .1), sym (u t st)) refl) m)
-
-  pub used-reset : (v : ℤ) → below0 v ≡ false → Meets (λ t. finish (release t s (record { used = true; count = v }))) a b r → Meets (λ t. step t (Reset z v)) a b r
-  unfolding step Tells
-  used-reset v h m = used-goes (λ x. Reset x v) (λ u. alike (λ t. step t (Reset (pos s) v)) (λ t. finish (release t s (record { used = true; count = v }))) a b r (λ t st S. rw (h, lt-leb semaphoreLimit s (c .1), sym (u t st)) refl) m)
-
-pub used-count : (z : ℤ) (s : ℕ) (a : List ℕ) (v : ℤ) → Chosen z a (Used s) → Tells (λ t. countOf t s) a v → Meets (λ t. step t (Count z)) a a (Done v)
-unfolding step Tells
-used-count z s a v c told = used-goes z s a a (Done v) c Count (λ u. does (λ t. step t (Count (pos s))) v a a (λ t st S. (t, rw (lt-leb semaphoreLimit s (c .1), sym (u t st)) (ap (λ (x : ℤ). done x t) (sym (told t st))), st)))
+pub count-told : (z : ℤ) (s : ℕ) (a : List ℕ) (v : ℤ) → Chosen z a (Used s) → Tells (λ t. countOf t s) a v → Leads (λ t. step t (Count z)) a a (Done v)
+unfolding Leads step Tells
+count-told z s a v w count t st S = (t, rw (w .0, lt-leb semaphoreLimit s (w .1), sym (w .2 t st), sym (count t st)) refl, st, still S t refl)
 
 -- Calls on a process: its number
 
-pub process-outside : (call : Call) (z : ℤ) (bs : List ℕ) → ((t : Tables) → checks t call ≡ noProcess z ∷ drop 1 (checks t call)) → indexBelow z processLimit ≡ Outside → Meets (λ t. step t call) bs bs (Refused 6)
+pub process-outside : (call : Call) (z : ℤ) (bs : List ℕ) → ((t : Tables) → checks t call ≡ noProcess z ∷ drop 1 (checks t call)) → indexBelow z processLimit ≡ Outside → Leads (λ t. step t call) bs bs (Refused 6)
 unfolding step
 process-outside call z bs e out =
     refuses (λ t. step t call) 6 bs (λ t st S. ap (λ (cs : List Check). unless (λ m. refused m t) cs (finish (deed t call))) (e t) ∙ rw (no-number z processLimit out) refl)
 
-pub process-null : (call : Call) (p : ℕ) (bs : List ℕ) → ((t : Tables) → checks t call ≡ noProcess (pos p) ∷ nullProcess (pos p) ∷ drop 2 (checks t call)) → p < processLimit → p ≡ 0 → Meets (λ t. step t call) bs bs (Refused 10)
+pub process-null : (call : Call) (z : ℤ) (p : ℕ) (bs : List ℕ) → ((t : Tables) → checks t call ≡ noProcess z ∷ nullProcess z ∷ drop 2 (checks t call)) → indexBelow z processLimit ≡ At p → p ≡ 0 → Leads (λ t. step t call) bs bs (Refused 10)
 unfolding step
-process-null call p bs e h is =
-    refuses (λ t. step t call) 10 bs (λ t st S. ap (λ (cs : List Check). unless (λ m. refused m t) cs (finish (deed t call))) (e t) ∙ rw (lt-leb processLimit p h, eq-eqb p 0 is) refl)
-
-pub numbered-goes : (call : ℤ → Call) (z : ℤ) (m n : ℕ) (a b : List ℕ) (r : Answer) → indexBelow z m ≡ At n → Meets (λ t. step t (call (pos n))) a b r → Meets (λ t. step t (call z)) a b r
-numbered-goes call z m n a b r e d = subst (λ (x : ℤ). Meets (λ t. step t (call x)) a b r) (sym (number z m n e .0)) d
-
--- who runs
-module _ (c : ℕ) (a : List ℕ) (told : Tells (found 1) a c) (t : Tables) (st : Stands t a) (S : Sound t) where
-  somebody : c ≡ processLimit → ⊥
-  somebody e =
-      let none : currents t ≡ [] = sym (line-current t) ∙ told-nobody 1 c a told t st e in
-      let one : length (currents t) ≡ 1 = S .running .one in
-      let zero : length (currents t) ≡ 0 = ap length none in
-      omega arith
-
-  pub runs : (c < processLimit) × (c ≡ currentOf t)
-  unfolding firstOr
-  runs = let w = told-somebody 1 c a told t st somebody in (w .0, ap first (sym (sym (line-current t) ∙ w .2)))
+process-null call z p bs e at is =
+    let n = number z processLimit p at in
+    refuses (λ t. step t call) 10 bs (λ t st S. ap (λ (cs : List Check). unless (λ m. refused m t) cs (finish (deed t call))) (e t) ∙ rw (n .0, lt-leb processLimit p (n .1), eq-eqb p 0 is) refl)

@@ -1,130 +1,77 @@
--- A call by its number. Assumes nothing.
-use Prim.Native.Nat.{_<_, _≤_, ℕ, zero, suc}
+-- A call by its number: 13, 14, or the call. Assumes nothing.
+use Prim.Native.Nat.{_<_, _≤_, ℕ}
 use native.Mathlib.Omega.{arith}
-use mathlib.Core.Bool.{Bool, _&&_, _||_, and-false, false, not, true}
+use mathlib.Core.Bool.{Bool, _&&_, _||_, false, not, true}
 use mathlib.Core.List.{List}
-use mathlib.Core.Option.{some, Option·none-ne-some, Option·some-injective}
+use mathlib.Core.Option.{none, some}
 use mathlib.Core.Path.{_∙_, _≡_, ap, refl, subst, sym}
-use lib.Dec.{eqb, ltb}
-use lib.IntN.{pos, ℤ}
+use lib.IntN.{ℤ}
 use mir.Syntax.{w32}
 use mir.Val.{SFits, ofZ, toZ}
 use mir.ValLaws.{toZ-ofZ}
-use borrow.Author.Tests.{le-ltb, lt-ltb, ne-eqb}
-use Rattle.layout.specs.Stands.{Turns}
-use Rattle.rules.specs.Calls.{Wait, Signal, MakeSemaphore, Delete, Reset, MakeProcess, Resume, Suspend, Kill, Yield, Count, below0, step}
-use Rattle.rules.specs.Enter.{Form, neither, first, both, formOf, callOf, isZero, numbered, spare}
-use Rattle.rules.specs.Schedule.{reschedule}
-use Rattle.rules.specs.declared.Answer.{Answer}
-use Rattle.rules.specs.declared.Answer.the-variants.{Done, Refused}
-use Rattle.rules.proofs.Numbers.{number-known, number-past, number-unknown, number-spare, number-goes}
-use Rattle.kernel.specs.Meets.{Meets}
-use Rattle.kernel.specs.Unused.{unused}
-use Rattle.kernel.proofs.CallLaws.{alike, does, refuses}
+use Rattle.rules.specs.Calls.{Call, Reset, Yield, step}
+use Rattle.rules.specs.Enter.{both, first, formOf, isZero, neither, numbered}
+use Rattle.kernel.specs.Steps.{Leads}
+use Rattle.kernel.specs.declared.step.Step.{Step}
+use Rattle.kernel.specs.declared.step.Step.the-variants.{Refused}
+use Rattle.rules.proofs.Numbers.{number-goes, number-past, number-spare, number-unknown}
+use Rattle.kernel.proofs.CallLaws.{alike, refuses}
 
-pub reset-3 : (a b : ℤ) (bs : List ℕ) → below0 b ≡ true → Meets (λ t. step t (Reset a b)) bs bs (Refused 3)
-unfolding step
-reset-3 a b bs h = refuses (λ t. step t (Reset a b)) 3 bs (λ t st S. rw h refl)
+-- arguments that were passed on are read back from their bits
+module _ (n : ℕ) (a b : ℤ) (fa : SFits w32 a) (fb : SFits w32 b) (x : List ℕ) where
+  abbrev a′ : ℤ
+  a′ = toZ w32 (ofZ w32 a)
 
-pub yield-done : (a b : List ℕ) → Turns reschedule a b → Meets (λ t. step t Yield) a b (Done (pos 1))
-unfolding step Turns
-yield-done a b run = does (λ t. step t Yield) (pos 1) a b (λ t st S. (reschedule t, refl, run t st))
+  abbrev b′ : ℤ
+  b′ = toZ w32 (ofZ w32 b)
 
--- An argument that the call doesn't use
+  zero : (z : ℤ) → SFits w32 z → (u v : Bool) → u ≡ isZero (toZ w32 (ofZ w32 z)) → u ≡ v → isZero z ≡ v
+  zero z f u v e h = ap isZero (sym (toZ-ofZ w32 z f)) ∙ sym e ∙ h
 
-module _ (n : ℕ) (a b : ℤ) where
-  pub spare-reset : n ≡ 5 → false ≡ unused n a b
-  spare-reset e = rw e (sym (ap (λ (x : Bool). x || (not (isZero a) && eqb 5 10)) (and-false (not (isZero b))) ∙ and-false (not (isZero a))))
+  -- a call of the first argument alone
+  module _ (k : ℕ) (call : ℤ → Call) (line : formOf k ≡ some (first call)) (is : n ≡ k) (u : Bool) (e : u ≡ isZero b′) where
+    pub unary-goes : u ≡ true → (y : List ℕ) (r : Step) → Leads (λ t. step t (call a′)) x y r → Leads (λ t. numbered t n a b) x y r
+    unary-goes h y r m =
+        alike (λ t. numbered t n a b) (λ t. step t (call a)) x y r (λ t st. rw is (number-goes t a b k (first call) line (ap not (zero b fb u true e h))))
+        (subst (λ (z : ℤ). Leads (λ t. step t (call z)) x y r) (toZ-ofZ w32 a fa) m)
 
-  pub spare-yield : (x y : Bool) → n ≡ 10 → x ≡ isZero a → y ≡ isZero b → x ≡ true → not y ≡ unused n a b
-  spare-yield x y e p q h =
-      let z : isZero a ≡ true = sym p ∙ h in
-      rw (e, z, q) (go (isZero b))
-    where
-      go : (c : Bool) → not c ≡ ((not c && true) || false)
-      go true = refl
-      go false = refl
+    pub unary-14 : u ≡ false → Leads (λ t. numbered t n a b) x x (Refused 14)
+    unary-14 h = refuses (λ t. numbered t n a b) 14 x (λ t st S. rw is (number-spare t a b k (first call) line (ap not (zero b fb u false e h))))
 
-  pub spare-yield-first : (x : Bool) → n ≡ 10 → x ≡ isZero a → x ≡ false → true ≡ unused n a b
-  spare-yield-first x e p h =
-      let z : isZero a ≡ false = sym p ∙ h in
-      rw (e, z) (go (isZero b))
-    where
-      go : (c : Bool) → true ≡ ((not c && true) || true)
-      go true = refl
-      go false = refl
+  pub reset-goes : n ≡ 5 → (y : List ℕ) (r : Step) → Leads (λ t. step t (Reset a′ b′)) x y r → Leads (λ t. numbered t n a b) x y r
+  reset-goes is y r m =
+      alike (λ t. numbered t n a b) (λ t. step t (Reset a b)) x y r (λ t st. rw is (number-goes t a b 5 (both Reset) refl refl))
+      (subst (λ (z : ℤ). Leads (λ t. step t (Reset a z)) x y r) (toZ-ofZ w32 b fb) (subst (λ (z : ℤ). Leads (λ t. step t (Reset z b′)) x y r) (toZ-ofZ w32 a fa) m))
 
-  pub spare-other : (y : Bool) → (n ≡ 5 → ⊥) → (n ≡ 10 → ⊥) → y ≡ isZero b → not y ≡ unused n a b
-  spare-other y p q e = rw (ne-eqb n 5 p, ne-eqb n 10 q, e) (go (isZero b) (isZero a))
-    where
-      go : (c d : Bool) → not c ≡ ((not c && true) || (not d && false))
-      go true true = refl
-      go true false = refl
-      go false d = refl
+  -- a yield uses neither
+  module _ (is : n ≡ 10) (u v : Bool) (ea : u ≡ isZero a′) (eb : v ≡ isZero b′) where
+    spared : (k : Bool) → (u && v) ≡ k → (not (isZero a) || not (isZero b)) ≡ not k
+    spared k h =
+        let e : (isZero a && isZero b) ≡ k = rw (zero a fa u u ea refl, zero b fb v v eb refl) h in
+        either-not (isZero a) (isZero b) ∙ ap not e
+      where
+        either-not : (p q : Bool) → (not p || not q) ≡ not (p && q)
+        either-not true q = refl
+        either-not false q = refl
 
-second-one : (x y : Bool) → ((x && true) || (y && false)) ≡ x
-second-one true y = refl
-second-one false true = refl
-second-one false false = refl
+    pub yield-goes : (u && v) ≡ true → (y : List ℕ) (r : Step) → Leads (λ t. step t Yield) x y r → Leads (λ t. numbered t n a b) x y r
+    yield-goes h y r = alike (λ t. numbered t n a b) (λ t. step t Yield) x y r (λ t st. rw is (number-goes t a b 10 (neither Yield) refl (spared true h)))
 
-neither-one : (x y : Bool) → ((x && false) || (y && false)) ≡ false
-neither-one true true = refl
-neither-one true false = refl
-neither-one false true = refl
-neither-one false false = refl
+    pub yield-14 : (u && v) ≡ false → Leads (λ t. numbered t n a b) x x (Refused 14)
+    yield-14 h = refuses (λ t. numbered t n a b) 14 x (λ t st S. rw is (number-spare t a b 10 (neither Yield) refl (spared false h)))
 
-both-ones : (x y : Bool) → ((x && true) || (y && true)) ≡ (y || x)
-both-ones true true = refl
-both-ones true false = refl
-both-ones false true = refl
-both-ones false false = refl
-
--- it is the test of the form
-unused-is : (n : ℕ) (f : Form) (a b : ℤ) → formOf n ≡ some f → unused n a b ≡ spare f a b
-unused-is zero f a b e = absurd (Option·none-ne-some f e)
-unused-is (suc zero) f a b e = subst (λ (g : Form). unused 1 a b ≡ spare g a b) (Option·some-injective (first Wait) f e) (second-one (not (isZero b)) (not (isZero a)))
-unused-is (suc (suc zero)) f a b e = subst (λ (g : Form). unused 2 a b ≡ spare g a b) (Option·some-injective (first Signal) f e) (second-one (not (isZero b)) (not (isZero a)))
-unused-is (suc (suc (suc zero))) f a b e = subst (λ (g : Form). unused 3 a b ≡ spare g a b) (Option·some-injective (first MakeSemaphore) f e) (second-one (not (isZero b)) (not (isZero a)))
-unused-is (suc (suc (suc (suc zero)))) f a b e = subst (λ (g : Form). unused 4 a b ≡ spare g a b) (Option·some-injective (first Delete) f e) (second-one (not (isZero b)) (not (isZero a)))
-unused-is (suc (suc (suc (suc (suc zero))))) f a b e = subst (λ (g : Form). unused 5 a b ≡ spare g a b) (Option·some-injective (both Reset) f e) (neither-one (not (isZero b)) (not (isZero a)))
-unused-is (suc (suc (suc (suc (suc (suc zero)))))) f a b e = subst (λ (g : Form). unused 6 a b ≡ spare g a b) (Option·some-injective (first MakeProcess) f e) (second-one (not (isZero b)) (not (isZero a)))
-unused-is (suc (suc (suc (suc (suc (suc (suc zero))))))) f a b e = subst (λ (g : Form). unused 7 a b ≡ spare g a b) (Option·some-injective (first Resume) f e) (second-one (not (isZero b)) (not (isZero a)))
-unused-is (suc (suc (suc (suc (suc (suc (suc (suc zero)))))))) f a b e = subst (λ (g : Form). unused 8 a b ≡ spare g a b) (Option·some-injective (first Suspend) f e) (second-one (not (isZero b)) (not (isZero a)))
-unused-is (suc (suc (suc (suc (suc (suc (suc (suc (suc zero))))))))) f a b e = subst (λ (g : Form). unused 9 a b ≡ spare g a b) (Option·some-injective (first Kill) f e) (second-one (not (isZero b)) (not (isZero a)))
-unused-is (suc (suc (suc (suc (suc (suc (suc (suc (suc (suc zero)))))))))) f a b e = subst (λ (g : Form). unused 10 a b ≡ spare g a b) (Option·some-injective (neither Yield) f e) (both-ones (not (isZero b)) (not (isZero a)))
-unused-is (suc (suc (suc (suc (suc (suc (suc (suc (suc (suc (suc zero))))))))))) f a b e = subst (λ (g : Form). unused 11 a b ≡ spare g a b) (Option·some-injective (first Count) f e) (second-one (not (isZero b)) (not (isZero a)))
-unused-is (suc (suc (suc (suc (suc (suc (suc (suc (suc (suc (suc (suc n)))))))))))) f a b e = absurd (Option·none-ne-some f e)
-
--- Before the call's own checks
+-- 01 to 0b have their calls; the others are unknown
 
 module _ (n : ℕ) (a b : ℤ) (bs : List ℕ) where
-  pub low-13 : n < 1 → Meets (λ t. numbered t n a b) bs bs (Refused 13)
-  low-13 h = let z : n ≡ 0 = omega arith in refuses (λ t. numbered t n a b) 13 bs (λ t st S. rw z (number-unknown t a b 0 refl))
+  unknown : formOf n ≡ none → Leads (λ t. numbered t n a b) bs bs (Refused 13)
+  unknown h = refuses (λ t. numbered t n a b) 13 bs (λ t st S. number-unknown t a b n h)
 
-  pub high-13 : 11 < n → Meets (λ t. numbered t n a b) bs bs (Refused 13)
-  high-13 h = refuses (λ t. numbered t n a b) 13 bs (λ t st S. number-unknown t a b n (number-past n h))
+  pub low-13 : n < 6 → (n ≡ 1 → ⊥) → (n ≡ 2 → ⊥) → (n ≡ 3 → ⊥) → (n ≡ 4 → ⊥) → (n ≡ 5 → ⊥) → Leads (λ t. numbered t n a b) bs bs (Refused 13)
+  low-13 h n1 n2 n3 n4 n5 = let z : n ≡ 0 = omega arith in unknown (rw z refl)
 
--- an argument that was passed on is read back from its bits
-module _ (n : ℕ) (a b : ℤ) (fa : SFits w32 a) (fb : SFits w32 b) (low : 1 ≤ n) (high : n ≤ 11) where
-  spared : (f : Form) → formOf n ≡ some f → (x : Bool) → unused n (toZ w32 (ofZ w32 a)) (toZ w32 (ofZ w32 b)) ≡ x → spare f a b ≡ x
-  spared f is x e = sym (unused-is n f a b is) ∙ ap (λ (y : ℤ). unused n y b) (sym (toZ-ofZ w32 a fa)) ∙ ap (unused n (toZ w32 (ofZ w32 a))) (sym (toZ-ofZ w32 b fb)) ∙ e
+  pub high-13 : 6 ≤ n → (n ≡ 6 → ⊥) → (n ≡ 7 → ⊥) → (n ≡ 8 → ⊥) → (n ≡ 9 → ⊥) → (n ≡ 10 → ⊥) → (n ≡ 11 → ⊥) → Leads (λ t. numbered t n a b) bs bs (Refused 13)
+  high-13 h n6 n7 n8 n9 n10 n11 = unknown (number-past n (omega arith))
 
-  pub spare-14 : (bs : List ℕ) → unused n (toZ w32 (ofZ w32 a)) (toZ w32 (ofZ w32 b)) ≡ true → Meets (λ t. numbered t n a b) bs bs (Refused 14)
-  spare-14 bs e = let k = number-known n low high in refuses (λ t. numbered t n a b) 14 bs (λ t st S. number-spare t a b n (k .0) (k .1) (spared (k .0) (k .1) true e))
-
-  -- the call with this number
-  pub entered : (k : ℕ) (f : Form) → formOf k ≡ some f → n ≡ k → unused n (toZ w32 (ofZ w32 a)) (toZ w32 (ofZ w32 b)) ≡ false → (x y : List ℕ) (r : Answer) → Meets (λ t. step t (callOf f (toZ w32 (ofZ w32 a)) (toZ w32 (ofZ w32 b)))) x y r → Meets (λ t. numbered t n a b) x y r
-  entered k f line is e x y r m =
-      let g : formOf n ≡ some f = ap formOf is ∙ line in
-      alike (λ t. numbered t n a b) (λ t. step t (callOf f a b)) x y r (λ t st S. number-goes t a b n f g (spared f g false e))
-      (subst (λ (z : ℤ). Meets (λ t. step t (callOf f a z)) x y r) (toZ-ofZ w32 b fb) (subst (λ (z : ℤ). Meets (λ t. step t (callOf f z (toZ w32 (ofZ w32 b)))) x y r) (toZ-ofZ w32 a fa) m))
-
--- none of the numbers 1 to 10
-pub eleven : (n : ℕ) → 1 ≤ n → n ≤ 11 → (n ≡ 1 → ⊥) → (n ≡ 2 → ⊥) → (n ≡ 3 → ⊥) → (n ≡ 4 → ⊥) → (n ≡ 5 → ⊥) → (n ≡ 6 → ⊥) → (n ≡ 7 → ⊥) → (n ≡ 8 → ⊥) → (n ≡ 9 → ⊥) → (n ≡ 10 → ⊥) → n ≡ 11
-eleven n low high n1 n2 n3 n4 n5 n6 n7 n8 n9 n10 = over n (above n low n1 n2 n3 n4 n5) high n6 n7 n8 n9 n10
-  where
-    above : (m : ℕ) → 1 ≤ m → (m ≡ 1 → ⊥) → (m ≡ 2 → ⊥) → (m ≡ 3 → ⊥) → (m ≡ 4 → ⊥) → (m ≡ 5 → ⊥) → 6 ≤ m
-    above m h m1 m2 m3 m4 m5 = omega arith
-
-    over : (m : ℕ) → 6 ≤ m → m ≤ 11 → (m ≡ 6 → ⊥) → (m ≡ 7 → ⊥) → (m ≡ 8 → ⊥) → (m ≡ 9 → ⊥) → (m ≡ 10 → ⊥) → m ≡ 11
-    over m h k m6 m7 m8 m9 m10 = omega arith
+-- a call handed on with its arguments
+pub handed-on : (n : ℕ) (a b : ℤ) → SFits w32 a → SFits w32 b → (x y : List ℕ) (r : Step) → Leads (λ t. numbered t n (toZ w32 (ofZ w32 a)) (toZ w32 (ofZ w32 b))) x y r → Leads (λ t. numbered t n a b) x y r
+handed-on n a b fa fb x y r m = rw (toZ-ofZ w32 a fa, toZ-ofZ w32 b fb) at m

@@ -1,10 +1,5 @@
-pub mod CountLaws
-pub mod Arguments
-pub mod Found
-pub mod SearchLaws
-pub mod Moves
-pub mod Spots
-pub mod ScheduleLaws
+pub mod TargetLaws
+pub mod RunningLaws
 pub mod CallLaws
 pub mod WaitSignalLaws
 pub mod ReleaseLaws

@@ -12,66 +12,83 @@ use Rattle.layout.specs.Stands.{Tells, Turns}
 use Rattle.lists.specs.Lists.{firstOr, isEmpty}
 use Rattle.lists.specs.Numbers.{roundFrom}
 use Rattle.rules.specs.Calls.{MakeProcess, MakeSemaphore, below0, onePast, outside, step}
-use Rattle.rules.specs.declared.Answer.the-variants.{Done, Refused}
+use Rattle.scheduling.specs.Index.{indexBelow}
+use Rattle.scheduling.specs.Search.{firstFree}
+use Rattle.scheduling.specs.declared.index.Index.the-variants.{At, Outside}
 use Rattle.tables.specs.Limits.{priorityLimit, processLimit, semaphoreLimit}
+use Rattle.tables.specs.Readers.{line, stateOf}
 use Rattle.tables.specs.Setters.{newSlot, withNextProcess, withNextSemaphore, withProcess, withSemaphore}
+use Rattle.tables.specs.States.{isFree}
+use Rattle.tables.specs.declared.Process.{Process}
 use Rattle.tables.specs.declared.Tables.{Tables}
-use Rattle.kernel.specs.Arguments.{indexBelow}
-use Rattle.kernel.specs.Meets.{Meets}
-use Rattle.kernel.specs.Search.{firstFree}
-use Rattle.kernel.specs.declared.index.Index.the-variants.{Outside}
-use Rattle.kernel.proofs.Arguments.{no-number}
-use Rattle.kernel.proofs.CallLaws.{does, refuses}
-use Rattle.kernel.proofs.Found.{first-none, first-some}
-use Rattle.kernel.proofs.SearchLaws.{first-semaphore, first-slot}
+use Rattle.kernel.specs.Steps.{Leads}
+use Rattle.kernel.specs.declared.step.Step.the-variants.{Done, Refused}
+use Rattle.lists.proofs.ListLaws.{first-passes}
+use Rattle.scheduling.proofs.Found.{first-none, first-some}
+use Rattle.scheduling.proofs.IndexLaws.{no-number, number}
+use Rattle.scheduling.proofs.SearchLaws.{first-semaphore, first-slot}
+use Rattle.tables.proofs.LineLaws.{live-slot}
+use Rattle.tables.proofs.States.{free-not-current}
+use Rattle.kernel.proofs.CallLaws.{refuses}
+use Rattle.kernel.proofs.RunningLaws.{slot-still, still}
 
 -- A semaphore
 
-pub make-3 : (z : ℤ) (bs : List ℕ) → below0 z ≡ true → Meets (λ t. step t (MakeSemaphore z)) bs bs (Refused 3)
+pub make-3 : (z : ℤ) (bs : List ℕ) → below0 z ≡ true → Leads (λ t. step t (MakeSemaphore z)) bs bs (Refused 3)
 unfolding step
 make-3 z bs h = refuses (λ t. step t (MakeSemaphore z)) 3 bs (λ t st S. rw h refl)
 
 module _ (z : ℤ) (h : below0 z ≡ false) (a : List ℕ) (k r : ℕ) (cursor : Tells (λ t. t .«next_semaphore») a k) (is : k < semaphoreLimit → r ≡ firstFree a usedAt semaphoreLimit (roundFrom semaphoreLimit k)) where
-  pub make-4 : r ≡ semaphoreLimit → Meets (λ t. step t (MakeSemaphore z)) a a (Refused 4)
+  pub make-4 : r ≡ semaphoreLimit → Leads (λ t. step t (MakeSemaphore z)) a a (Refused 4)
   unfolding step isEmpty
   make-4 e = refuses (λ t. step t (MakeSemaphore z)) 4 a (λ t st S. rw (h, first-none (first-semaphore a k r t st S cursor is) e) refl)
 
   module _ (b d : List ℕ) (put : Turns (λ t. withSemaphore t r (record { used = true; count = z })) a b) (move : Turns (λ t. withNextSemaphore t (onePast semaphoreLimit r)) b d) where
-    pub make-semaphore-done : (v : ℤ) → v ≡ pos r → (r ≡ semaphoreLimit → ⊥) → Meets (λ t. step t (MakeSemaphore z)) a d (Done v)
-    unfolding step isEmpty firstOr Turns
-    make-semaphore-done v e n =
-        does (λ t. step t (MakeSemaphore z)) v a d (λ t st S.
+    pub make-semaphore-done : (v : ℤ) → v ≡ pos r → (r ≡ semaphoreLimit → ⊥) → Leads (λ t. step t (MakeSemaphore z)) a d (Done v)
+    unfolding Leads step isEmpty firstOr Turns line
+    make-semaphore-done v e n t st S =
         let w = first-some (first-semaphore a k r t st S cursor is) n in
-        let u : Tables = withSemaphore t r (record { used = true; count = z }) in
-        (withNextSemaphore u (onePast semaphoreLimit r), rw (h, w .2, e) refl, move u (put t st)))
+        let u : Tables = withNextSemaphore (withSemaphore t r (record { used = true; count = z })) (onePast semaphoreLimit r) in
+        (u, rw (h, w .2, e) refl, move (withSemaphore t r (record { used = true; count = z })) (put t st), still S u refl)
 
 -- A process
 
-priority-low : (z : ℤ) → indexBelow z (priorityLimit + 1) ≡ Outside → (ltZ z (pos 1) || ltZ (pos priorityLimit) z) ≡ true
-priority-low (pos n) e =
+priority-outside : (z : ℤ) → indexBelow z (priorityLimit + 1) ≡ Outside → (ltZ z (pos 1) || ltZ (pos priorityLimit) z) ≡ true
+priority-outside (pos n) e =
     let far : outside (priorityLimit + 1) (pos n) ≡ true = no-number (pos n) (priorityLimit + 1) e in
     let k : priorityLimit + 1 ≤ n = leb-true (priorityLimit + 1) n far in
     rw (le-ltb n 1 (omega arith), lt-ltb priorityLimit n (omega arith)) refl
-priority-low (negsuc n) e = refl
+priority-outside (negsuc n) e = refl
 
-pub make-11 : (z : ℤ) (bs : List ℕ) → indexBelow z (priorityLimit + 1) ≡ Outside → Meets (λ t. step t (MakeProcess z)) bs bs (Refused 11)
+pub make-11 : (z : ℤ) (bs : List ℕ) → indexBelow z (priorityLimit + 1) ≡ Outside → Leads (λ t. step t (MakeProcess z)) bs bs (Refused 11)
 unfolding step
-make-11 z bs e = refuses (λ t. step t (MakeProcess z)) 11 bs (λ t st S. rw (priority-low z e) refl)
+make-11 z bs e = refuses (λ t. step t (MakeProcess z)) 11 bs (λ t st S. rw (priority-outside z e) refl)
 
-pub make-11-null : (n : ℕ) (bs : List ℕ) → n ≡ 0 → Meets (λ t. step t (MakeProcess (pos n))) bs bs (Refused 11)
-unfolding step
-make-11-null n bs e = refuses (λ t. step t (MakeProcess (pos n))) 11 bs (λ t st S. rw (lt-ltb n 1 (omega arith)) refl)
+module _ (z : ℤ) (n : ℕ) (at : indexBelow z (priorityLimit + 1) ≡ At n) where
+  priority-is : z ≡ pos n
+  priority-is = number z (priorityLimit + 1) n at .0
 
-module _ (n : ℕ) (live : n ≡ 0 → ⊥) (low : n ≤ priorityLimit) (a : List ℕ) (k r : ℕ) (cursor : Tells (λ t. t .«next_process») a k) (is : k < processLimit → r ≡ firstFree a statesAt processLimit (roundFrom processLimit k)) where
-  pub make-8 : r ≡ processLimit → Meets (λ t. step t (MakeProcess (pos n))) a a (Refused 8)
-  unfolding step isEmpty
-  make-8 e = refuses (λ t. step t (MakeProcess (pos n))) 8 a (λ t st S. rw (le-ltb n 1 (omega arith), le-ltb priorityLimit n low, first-none (first-slot a k r t st S cursor is) e) refl)
+  pub make-11-null : (bs : List ℕ) → n ≡ 0 → Leads (λ t. step t (MakeProcess z)) bs bs (Refused 11)
+  unfolding step
+  make-11-null bs e = refuses (λ t. step t (MakeProcess z)) 11 bs (λ t st S. rw (priority-is, lt-ltb n 1 (omega arith)) refl)
 
-  module _ (b d : List ℕ) (put : r < processLimit → Turns (λ t. withProcess t r (newSlot n)) a b) (move : Turns (λ t. withNextProcess t (onePast processLimit r)) b d) where
-    pub make-process-done : (v : ℤ) → v ≡ pos r → (r ≡ processLimit → ⊥) → Meets (λ t. step t (MakeProcess (pos n))) a d (Done v)
-    unfolding step isEmpty firstOr Turns
-    make-process-done v e m =
-        does (λ t. step t (MakeProcess (pos n))) v a d (λ t st S.
-        let w = first-some (first-slot a k r t st S cursor is) m in
-        let u : Tables = withProcess t r (newSlot n) in
-        (withNextProcess u (onePast processLimit r), rw (le-ltb n 1 (omega arith), le-ltb priorityLimit n low, w .2, e) refl, move u (put (w .0) t st)))
+  module _ (live : n ≡ 0 → ⊥) (a : List ℕ) (k r : ℕ) (cursor : Tells (λ t. t .«next_process») a k) (is : k < processLimit → r ≡ firstFree a statesAt processLimit (roundFrom processLimit k)) where
+    fits : (ltZ z (pos 1) || ltZ (pos priorityLimit) z) ≡ false
+    fits = let low : n < priorityLimit + 1 = number z (priorityLimit + 1) n at .1 in rw (priority-is, le-ltb n 1 (omega arith), le-ltb priorityLimit n (omega arith)) refl
+
+    pub make-8 : r ≡ processLimit → Leads (λ t. step t (MakeProcess z)) a a (Refused 8)
+    unfolding step isEmpty
+    make-8 e = refuses (λ t. step t (MakeProcess z)) 8 a (λ t st S. rw (fits, first-none (first-slot a k r t st S cursor is) e) refl)
+
+    module _ (b d : List ℕ) (put : r < processLimit → Turns (λ t. withProcess t r (newSlot n)) a b) (move : Turns (λ t. withNextProcess t (onePast processLimit r)) b d) where
+      pub make-process-done : (v : ℤ) → v ≡ pos r → (r ≡ processLimit → ⊥) → Leads (λ t. step t (MakeProcess z)) a d (Done v)
+      unfolding Leads step isEmpty firstOr Turns line
+      make-process-done v e m t st S =
+          let w = first-some (first-slot a k r t st S cursor is) m in
+          let y : Process = newSlot n in
+          let free : isFree (stateOf t r) ≡ true = first-passes (λ p. isFree (stateOf t p)) (roundFrom processLimit (t .«next_process»)) (w .1) r (w .2) in (
+            withNextProcess (withProcess t r y) (onePast processLimit r),
+            rw (fits, priority-is, w .2, e) refl,
+            move (withProcess t r y) (put (w .0) t st),
+            slot-still S (withNextProcess t (onePast processLimit r)) refl r (live-slot (S .laid) r (w .0)) y refl (free-not-current (stateOf t r) free),
+          )

@@ -1,135 +1,164 @@
 -- Resume, suspend and kill: the rule's equation for each state of the slot, and the chain of changes. Assumes nothing.
 use Prim.Native.Nat.{_<_, ℕ}
+use mathlib.Core.Bool.{false}
 use mathlib.Core.List.{List}
 use mathlib.Core.Path.{_∙_, _≡_, ap, refl, subst, sym}
 use lib.IntN.{pos, sucℤ, ℤ}
+use lib.ListN.{length}
 use borrow.Author.Tests.{lt-leb, ne-eqb}
 use Rattle.layout.specs.Stands.{Stands, Tells, Turns}
-use Rattle.rules.specs.Answers.{done, refused}
-use Rattle.rules.specs.Calls.{Kill, Resume, Suspend, step, stop}
-use Rattle.rules.specs.Schedule.{makeReady, reschedule}
-use Rattle.rules.specs.declared.Answer.the-variants.{Done, Refused}
+use Rattle.rules.specs.Answers.{refused}
+use Rattle.rules.specs.Calls.{Call, Kill, Resume, Suspend, step}
+use Rattle.rules.specs.Schedule.{makeReady}
 use Rattle.rules.specs.declared.Outcome.{Outcome}
+use Rattle.scheduling.specs.Counts.{raise}
+use Rattle.scheduling.specs.Index.{indexBelow}
+use Rattle.scheduling.specs.declared.index.Index.the-variants.{At}
 use Rattle.tables.specs.Limits.{processLimit, semaphoreLimit}
-use Rattle.tables.specs.Readers.{countOf, freeSlot, priorityOf, process, stateOf}
+use Rattle.tables.specs.Readers.{countOf, freeSlot, line, priorityOf, process, stateOf}
 use Rattle.tables.specs.Setters.{withCount, withProcess, withState}
+use Rattle.tables.specs.Sound.{Sound}
+use Rattle.tables.specs.States.{isCurrent}
 use Rattle.tables.specs.declared.Process.{Process}
 use Rattle.tables.specs.declared.State.{State}
 use Rattle.tables.specs.declared.State.the-variants.{Current, Free, Ready, Suspended, Waiting}
 use Rattle.tables.specs.declared.Tables.{Tables}
+use Rattle.kernel.specs.Steps.{Leads, ended}
+use Rattle.kernel.specs.declared.step.Step.the-variants.{Done, Refused, Switches}
 use Rattle.layout.proofs.Compose.{with-told}
-use Rattle.tables.proofs.Sentences.{waiter-below}
-use Rattle.kernel.specs.Counts.{raise}
-use Rattle.kernel.specs.Meets.{Meets}
-use Rattle.kernel.proofs.CallLaws.{does, refuses}
-use Rattle.kernel.proofs.CountLaws.{raise-sound}
+use Rattle.scheduling.proofs.CountLaws.{raise-sound}
+use Rattle.scheduling.proofs.IndexLaws.{number}
+use Rattle.tables.proofs.LineLaws.{live-once, live-slot}
+use Rattle.tables.proofs.Sentences.{current-unique, waiter-below}
+use Rattle.kernel.proofs.CallLaws.{refuses}
+use Rattle.kernel.proofs.RunningLaws.{ready-still, slot-still, slot-stopped}
 
-abbrev resumed : Tables → ℕ → State → Outcome
-resumed t p Free = refused 7 t
-resumed t p Current = refused 9 t
-resumed t p Ready = refused 9 t
-resumed t p Suspended = done (pos (priorityOf t p)) (reschedule (makeReady t p))
-resumed t p (Waiting q) = refused 9 t
+abbrev pub resumed : ℕ → Tables → State → Outcome
+resumed p t Free = refused 7 t
+resumed p t Current = refused 9 t
+resumed p t Ready = refused 9 t
+resumed p t Suspended = ended (makeReady t p) (Switches (pos (priorityOf t p)))
+resumed p t (Waiting q) = refused 9 t
 
-abbrev suspended : Tables → ℕ → State → Outcome
-suspended t p Free = refused 7 t
-suspended t p Current = done (pos (priorityOf t p)) (reschedule (withState t p Suspended))
-suspended t p Ready = done (pos (priorityOf t p)) (withState t p Suspended)
-suspended t p Suspended = refused 9 t
-suspended t p (Waiting q) = refused 9 t
+abbrev pub suspended : ℕ → Tables → State → Outcome
+suspended p t Free = refused 7 t
+suspended p t Current = ended (withState t p Suspended) (Switches (pos (priorityOf t p)))
+suspended p t Ready = ended (withState t p Suspended) (Done (pos (priorityOf t p)))
+suspended p t Suspended = refused 9 t
+suspended p t (Waiting q) = refused 9 t
 
-abbrev killed : Tables → ℕ → State → Outcome
-killed t p Free = refused 7 t
-killed t p Current = done (pos 1) (reschedule (withProcess t p freeSlot))
-killed t p Ready = done (pos 1) (withProcess t p freeSlot)
-killed t p Suspended = done (pos 1) (withProcess t p freeSlot)
-killed t p (Waiting q) = done (pos 1) (withProcess (withCount t q (sucℤ (countOf t q))) p freeSlot)
+abbrev pub killed : ℕ → Tables → State → Outcome
+killed p t Free = refused 7 t
+killed p t Current = ended (withProcess t p freeSlot) (Switches (pos 1))
+killed p t Ready = ended (withProcess t p freeSlot) (Done (pos 1))
+killed p t Suspended = ended (withProcess t p freeSlot) (Done (pos 1))
+killed p t (Waiting q) = ended (withProcess (withCount t q (sucℤ (countOf t q))) p freeSlot) (Done (pos 1))
 
-module _ (t : Tables) (p : ℕ) (h : p < processLimit) where
-  resume-by : (k : State) → stateOf t p ≡ k → step t (Resume (pos p)) ≡ resumed t p k
+module _ (z : ℤ) (p : ℕ) (at : indexBelow z processLimit ≡ At p) where
+  is : z ≡ pos p
+  is = number z processLimit p at .0
+
+  below : p < processLimit
+  below = number z processLimit p at .1
+
+  pub resume-by : (t : Tables) (k : State) → stateOf t p ≡ k → step t (Resume z) ≡ resumed p t k
   unfolding step
-  resume-by Free e = rw (lt-leb processLimit p h, e) refl
-  resume-by Current e = rw (lt-leb processLimit p h, e) refl
-  resume-by Ready e = rw (lt-leb processLimit p h, e) refl
-  resume-by Suspended e = rw (lt-leb processLimit p h, e) refl
-  resume-by (Waiting q) e = rw (lt-leb processLimit p h, e) refl
+  resume-by t Free e = rw (is, lt-leb processLimit p below, e) refl
+  resume-by t Current e = rw (is, lt-leb processLimit p below, e) refl
+  resume-by t Ready e = rw (is, lt-leb processLimit p below, e) refl
+  resume-by t Suspended e = rw (is, lt-leb processLimit p below, e) refl
+  resume-by t (Waiting q) e = rw (is, lt-leb processLimit p below, e) refl
 
   module _ (n : p ≡ 0 → ⊥) where
-    suspend-by : (k : State) → stateOf t p ≡ k → step t (Suspend (pos p)) ≡ suspended t p k
+    pub suspend-by : (t : Tables) (k : State) → stateOf t p ≡ k → step t (Suspend z) ≡ suspended p t k
     unfolding step
-    suspend-by Free e = rw (lt-leb processLimit p h, ne-eqb p 0 n, e) refl
-    suspend-by Current e = rw (lt-leb processLimit p h, ne-eqb p 0 n, e) refl
-    suspend-by Ready e = rw (lt-leb processLimit p h, ne-eqb p 0 n, e) refl
-    suspend-by Suspended e = rw (lt-leb processLimit p h, ne-eqb p 0 n, e) refl
-    suspend-by (Waiting q) e = rw (lt-leb processLimit p h, ne-eqb p 0 n, e) refl
+    suspend-by t Free e = rw (is, lt-leb processLimit p below, ne-eqb p 0 n, e) refl
+    suspend-by t Current e = rw (is, lt-leb processLimit p below, ne-eqb p 0 n, e) refl
+    suspend-by t Ready e = rw (is, lt-leb processLimit p below, ne-eqb p 0 n, e) refl
+    suspend-by t Suspended e = rw (is, lt-leb processLimit p below, ne-eqb p 0 n, e) refl
+    suspend-by t (Waiting q) e = rw (is, lt-leb processLimit p below, ne-eqb p 0 n, e) refl
 
-    kill-by : (k : State) → stateOf t p ≡ k → step t (Kill (pos p)) ≡ killed t p k
+    pub kill-by : (t : Tables) (k : State) → stateOf t p ≡ k → step t (Kill z) ≡ killed p t k
     unfolding step
-    kill-by Free e = rw (lt-leb processLimit p h, ne-eqb p 0 n, e) refl
-    kill-by Current e = rw (lt-leb processLimit p h, ne-eqb p 0 n, e, e) refl
-    kill-by Ready e = rw (lt-leb processLimit p h, ne-eqb p 0 n, e, e) refl
-    kill-by Suspended e = rw (lt-leb processLimit p h, ne-eqb p 0 n, e, e) refl
-    kill-by (Waiting q) e = rw (lt-leb processLimit p h, ne-eqb p 0 n, e, e) refl
+    kill-by t Free e = rw (is, lt-leb processLimit p below, ne-eqb p 0 n, e) refl
+    kill-by t Current e = rw (is, lt-leb processLimit p below, ne-eqb p 0 n, e, e) refl
+    kill-by t Ready e = rw (is, lt-leb processLimit p below, ne-eqb p 0 n, e, e) refl
+    kill-by t Suspended e = rw (is, lt-leb processLimit p below, ne-eqb p 0 n, e, e) refl
+    kill-by t (Waiting q) e = rw (is, lt-leb processLimit p below, ne-eqb p 0 n, e, e) refl
 
-module _ (p : ℕ) (h : p < processLimit) (a : List ℕ) (x : Process) (told : p < processLimit → Tells (λ t. process t p) a x) where
-  state : (k : State) → x .state ≡ k → (t : Tables) → Stands t a → stateOf t p ≡ k
-  unfolding Tells
-  state k e t st = ap (λ (z : Process). z .state) (sym (told h t st)) ∙ e
+  module _ (a : List ℕ) (x : Process) (told : p < processLimit → Tells (λ t. process t p) a x) where
+    state : (k : State) → x .state ≡ k → (t : Tables) → Stands t a → stateOf t p ≡ k
+    unfolding Tells
+    state k e t st = ap (λ (y : Process). y .state) (sym (told below t st)) ∙ e
 
-  value : (v : ℤ) → v ≡ pos (x .priority) → (t : Tables) → Stands t a → pos (priorityOf t p) ≡ v
-  unfolding Tells
-  value v e t st = ap (λ (z : Process). pos (z .priority)) (sym (told h t st)) ∙ sym e
+    value : (v : ℤ) → v ≡ pos (x .priority) → (t : Tables) → Stands t a → pos (priorityOf t p) ≡ v
+    unfolding Tells
+    value v e t st = ap (λ (y : Process). pos (y .priority)) (sym (told below t st)) ∙ sym e
 
-  pub resume-refused : (k : State) (n : ℕ) → ((t : Tables) → resumed t p k ≡ refused n t) → x .state ≡ k → Meets (λ t. step t (Resume (pos p))) a a (Refused n)
-  resume-refused k n is e = refuses (λ t. step t (Resume (pos p))) n a (λ t st S. resume-by t p h k (state k e t st) ∙ is t)
+    slot : {t : Tables} → Sound t → p < length (t .processes)
+    slot S = live-slot (S .laid) p below
 
-  pub resume-done : (v : ℤ) (b d : List ℕ) → v ≡ pos (x .priority) → x .state ≡ Suspended → (p < processLimit → Turns (λ t. makeReady t p) a b) → Turns reschedule b d → Meets (λ t. step t (Resume (pos p))) a d (Done v)
-  unfolding Turns
-  resume-done v b d is e join run =
-      does (λ t. step t (Resume (pos p))) v a d (λ t st S.
-      (reschedule (makeReady t p), resume-by t p h Suspended (state Suspended e t st) ∙ ap (λ (z : ℤ). done z (reschedule (makeReady t p))) (value v is t st), run (makeReady t p) (join h t st)))
+    -- a state that the call refuses
+    pub refused-by : (call : Call) (result : Tables → State → Outcome) → ((t : Tables) (k : State) → stateOf t p ≡ k → step t call ≡ result t k) → (k : State) (n : ℕ) → ((t : Tables) → result t k ≡ refused n t) → x .state ≡ k → Leads (λ t. step t call) a a (Refused n)
+    refused-by call result by k n r e = refuses (λ t. step t call) n a (λ t st S. by t k (state k e t st) ∙ r t)
 
-  module _ (n : p ≡ 0 → ⊥) where
-    pub suspend-refused : (k : State) (i : ℕ) → ((t : Tables) → suspended t p k ≡ refused i t) → x .state ≡ k → Meets (λ t. step t (Suspend (pos p))) a a (Refused i)
-    suspend-refused k i is e = refuses (λ t. step t (Suspend (pos p))) i a (λ t st S. suspend-by t p h n k (state k e t st) ∙ is t)
+    pub resume-done : (v : ℤ) (b : List ℕ) → v ≡ pos (x .priority) → x .state ≡ Suspended → (p < processLimit → Turns (λ t. makeReady t p) a b) → Leads (λ t. step t (Resume z)) a b (Switches v)
+    unfolding Leads Turns
+    resume-done v b r e join t st S =
+        let s = state Suspended e t st in (
+          makeReady t p,
+          resume-by t Suspended s ∙ ap (λ (y : ℤ). ended (makeReady t p) (Switches y)) (value v r t st),
+          join below t st,
+          ready-still S t refl p (slot S) (live-once (S .laid) p below) (ap isCurrent s),
+        )
 
-    pub kill-refused : x .state ≡ Free → Meets (λ t. step t (Kill (pos p))) a a (Refused 7)
-    kill-refused e = refuses (λ t. step t (Kill (pos p))) 7 a (λ t st S. kill-by t p h n Free (state Free e t st))
+    module _ (n : p ≡ 0 → ⊥) where
+      module _ (b : List ℕ) (stop : p < processLimit → Turns (λ t. withState t p Suspended) a b) (v : ℤ) (r : v ≡ pos (x .priority)) where
+        pub suspend-ready : x .state ≡ Ready → Leads (λ t. step t (Suspend z)) a b (Done v)
+        unfolding Leads Turns
+        suspend-ready e t st S =
+            let s = state Ready e t st in (
+              withState t p Suspended,
+              suspend-by n t Ready s ∙ ap (λ (y : ℤ). ended (withState t p Suspended) (Done y)) (value v r t st),
+              stop below t st,
+              slot-still S t refl p (slot S) (record { state = Suspended; priority = priorityOf t p }) refl (ap isCurrent s),
+            )
 
-    module _ (b : List ℕ) (stop : p < processLimit → Turns (λ t. withState t p Suspended) a b) (v : ℤ) (is : v ≡ pos (x .priority)) where
-      pub suspend-ready : x .state ≡ Ready → Meets (λ t. step t (Suspend (pos p))) a b (Done v)
-      unfolding Turns
-      suspend-ready e =
-          does (λ t. step t (Suspend (pos p))) v a b (λ t st S.
-          (withState t p Suspended, suspend-by t p h n Ready (state Ready e t st) ∙ ap (λ (z : ℤ). done z (withState t p Suspended)) (value v is t st), stop h t st))
+        pub suspend-current : x .state ≡ Current → Leads (λ t. step t (Suspend z)) a b (Switches v)
+        unfolding Leads Turns
+        suspend-current e t st S =
+            let s = state Current e t st in (
+              withState t p Suspended,
+              suspend-by n t Current s ∙ ap (λ (y : ℤ). ended (withState t p Suspended) (Switches y)) (value v r t st),
+              stop below t st,
+              slot-stopped S t refl p (slot S) (record { state = Suspended; priority = priorityOf t p }) refl (current-unique S p (ap isCurrent s)),
+            )
 
-      pub suspend-current : (d : List ℕ) → x .state ≡ Current → Turns reschedule b d → Meets (λ t. step t (Suspend (pos p))) a d (Done v)
-      unfolding Turns
-      suspend-current d e run =
-          does (λ t. step t (Suspend (pos p))) v a d (λ t st S.
-          (reschedule (withState t p Suspended), suspend-by t p h n Current (state Current e t st) ∙ ap (λ (z : ℤ). done z (reschedule (withState t p Suspended))) (value v is t st), run (withState t p Suspended) (stop h t st)))
+      module _ (b : List ℕ) (free : p < processLimit → Turns (λ t. withProcess t p freeSlot) a b) where
+        -- a ready or suspended one
+        pub kill-still : (k : State) → ((t : Tables) → killed p t k ≡ ended (withProcess t p freeSlot) (Done (pos 1))) → isCurrent k ≡ false → x .state ≡ k → Leads (λ t. step t (Kill z)) a b (Done (pos 1))
+        unfolding Leads Turns
+        kill-still k r idle e t st S =
+            let s = state k e t st in
+            (withProcess t p freeSlot, kill-by n t k s ∙ r t, free below t st, slot-still S t refl p (slot S) freeSlot refl (ap isCurrent s ∙ idle))
 
-    module _ (b : List ℕ) (free : p < processLimit → Turns (λ t. withProcess t p freeSlot) a b) where
-      -- a ready or suspended one
-      pub kill-still : (k : State) → ((t : Tables) → killed t p k ≡ done (pos 1) (withProcess t p freeSlot)) → x .state ≡ k → Meets (λ t. step t (Kill (pos p))) a b (Done (pos 1))
-      unfolding Turns
-      kill-still k is e = does (λ t. step t (Kill (pos p))) (pos 1) a b (λ t st S. (withProcess t p freeSlot, kill-by t p h n k (state k e t st) ∙ is t, free h t st))
+        pub kill-current : x .state ≡ Current → Leads (λ t. step t (Kill z)) a b (Switches (pos 1))
+        unfolding Leads Turns
+        kill-current e t st S =
+            let s = state Current e t st in
+            (withProcess t p freeSlot, kill-by n t Current s, free below t st, slot-stopped S t refl p (slot S) freeSlot refl (current-unique S p (ap isCurrent s)))
 
-      pub kill-current : (d : List ℕ) → x .state ≡ Current → Turns reschedule b d → Meets (λ t. step t (Kill (pos p))) a d (Done (pos 1))
-      unfolding Turns
-      kill-current d e run = does (λ t. step t (Kill (pos p))) (pos 1) a d (λ t st S. (reschedule (withProcess t p freeSlot), kill-by t p h n Current (state Current e t st), run (withProcess t p freeSlot) (free h t st)))
-
-    pub kill-waiting : (q : ℕ) (b d : List ℕ) → x .state ≡ Waiting q → (q < semaphoreLimit → Turns (λ t. withCount t q (raise (countOf t q))) a b) → (p < processLimit → Turns (λ t. withProcess t p freeSlot) b d) → Meets (λ t. step t (Kill (pos p))) a d (Done (pos 1))
-    unfolding Turns
-    kill-waiting q b d e up free =
-        does (λ t. step t (Kill (pos p))) (pos 1) a d (λ t st S.
-        let is : stateOf t p ≡ Waiting q = state (Waiting q) e t st in
-        let u : Tables = withCount t q (sucℤ (countOf t q)) in (
-          withProcess u p freeSlot,
-          kill-by t p h n (Waiting q) is,
-          free h u (subst (λ (z : ℤ). Stands (withCount t q z) b) (raise-sound S p q is) (up (waiter-below S p q is) t st)),
-        ))
+      pub kill-waiting : (q : ℕ) (b d : List ℕ) → x .state ≡ Waiting q → (q < semaphoreLimit → Turns (λ t. withCount t q (raise (countOf t q))) a b) → (p < processLimit → Turns (λ t. withProcess t p freeSlot) b d) → Leads (λ t. step t (Kill z)) a d (Done (pos 1))
+      unfolding Leads Turns line
+      kill-waiting q b d e up free t st S =
+          let s : stateOf t p ≡ Waiting q = state (Waiting q) e t st in
+          let u : Tables = withCount t q (sucℤ (countOf t q)) in (
+            withProcess u p freeSlot,
+            kill-by n t (Waiting q) s,
+            free below u (subst (λ (y : ℤ). Stands (withCount t q y) b) (raise-sound S p q s) (up (waiter-below S p q s) t st)),
+            slot-still S u refl p (slot S) freeSlot refl (ap isCurrent s),
+          )
 
 -- one waiter less
 pub raise-turns : (s : ℕ) (n m : ℤ) (a b : List ℕ) → Tells (λ t. countOf t s) a n → m ≡ raise n → Turns (λ t. withCount t s m) a b → Turns (λ t. withCount t s (raise (countOf t s))) a b
-raise-turns s n m a b told e put = with-told (λ t. countOf t s) a n told (λ z t. withCount t s (raise z)) b (rw e at put)
+raise-turns s n m a b told e put = with-told (λ t. countOf t s) a n told (λ k t. withCount t s (raise k)) b (rw e at put)

@@ -1,7 +1,7 @@
 -- Wait and signal: the rule's equation in each branch, and the chain of changes. Assumes nothing.
 use Prim.Native.Nat.{_+_, _<_, ℕ}
 use mathlib.Core.Bool.{_&&_, false, true}
-use mathlib.Core.List.{List}
+use mathlib.Core.List.{List, _∷_}
 use mathlib.Core.Path.{_∙_, _≡_, ap, refl, subst, sym}
 use lib.Dec.{eqb}
 use lib.IntN.{pos, predℤ, sucℤ, ℤ}
@@ -9,95 +9,103 @@ use lib.Signed.{leZ}
 use borrow.Author.Tests.{lt-leb}
 use Rattle.layout.specs.Stands.{Stands, Tells, Turns}
 use Rattle.lists.specs.Lists.{first, firstOr}
-use Rattle.rules.specs.Answers.{done, refused}
+use Rattle.rules.specs.Answers.{refused}
 use Rattle.rules.specs.Calls.{Signal, Wait, below0, largest, step}
-use Rattle.rules.specs.Schedule.{makeReady, makeWait, reschedule}
-use Rattle.rules.specs.declared.Answer.the-variants.{Done, Refused}
+use Rattle.rules.specs.Schedule.{makeReady, makeWait}
+use Rattle.scheduling.specs.Counts.{lower, raise}
+use Rattle.scheduling.specs.Row.{found}
+use Rattle.scheduling.specs.Running.{Only}
 use Rattle.tables.specs.Limits.{processLimit, semaphoreLimit}
-use Rattle.tables.specs.Readers.{countOf, currentOf, isUsed, line, queue}
+use Rattle.tables.specs.Readers.{countOf, currentOf, isUsed, line, queue, stateOf}
 use Rattle.tables.specs.Setters.{withCount}
 use Rattle.tables.specs.Sound.{Sound}
+use Rattle.tables.specs.States.{isCurrent, waitsOn}
+use Rattle.tables.specs.declared.State.the-variants.{Waiting}
 use Rattle.tables.specs.declared.Tables.{Tables}
-use Rattle.kernel.specs.Counts.{lower, raise}
-use Rattle.kernel.specs.Meets.{Meets}
-use Rattle.kernel.specs.Row.{found}
-use Rattle.kernel.proofs.CallLaws.{does, refuses, runs}
-use Rattle.kernel.proofs.CountLaws.{lower-sound, somebody-waits}
-use Rattle.kernel.proofs.Found.{line-queue, told-nobody, told-somebody}
+use Rattle.kernel.specs.Steps.{Leads, Runs, ended}
+use Rattle.kernel.specs.Target.{Chosen}
+use Rattle.kernel.specs.declared.step.Step.the-variants.{Done, Refused, Switches}
+use Rattle.kernel.specs.declared.target.Target.the-variants.{Used}
+use Rattle.scheduling.proofs.CountLaws.{lower-sound, somebody-waits}
+use Rattle.scheduling.proofs.Found.{line-queue, told-nobody, told-somebody}
+use Rattle.tables.proofs.LineLaws.{line-first, live-once, live-slot}
+use Rattle.tables.proofs.Sentences.{current-below}
+use Rattle.tables.proofs.States.{waits-on}
+use Rattle.kernel.proofs.CallLaws.{refuses}
+use Rattle.kernel.proofs.RunningLaws.{ready-still, still, wait-stopped}
 
-module _ (t : Tables) (s : ℕ) (h : s < semaphoreLimit) (u : isUsed t s ≡ true) where
-  wait-barred : (eqb (currentOf t) 0 && leZ (countOf t s) (pos 0)) ≡ true → step t (Wait (pos s)) ≡ refused 10 t
+module _ (t : Tables) (z : ℤ) (s : ℕ) (is : z ≡ pos s) (h : s < semaphoreLimit) (u : isUsed t s ≡ true) where
+  wait-barred : (eqb (currentOf t) 0 && leZ (countOf t s) (pos 0)) ≡ true → step t (Wait z) ≡ refused 10 t
   unfolding step
-  wait-barred b = rw (lt-leb semaphoreLimit s h, u, b) refl
+  wait-barred b = rw (is, lt-leb semaphoreLimit s h, u, b) refl
 
-  wait-blocks : (eqb (currentOf t) 0 && leZ (countOf t s) (pos 0)) ≡ false → below0 (predℤ (countOf t s)) ≡ true
-      → step t (Wait (pos s)) ≡ done (pos 1) (reschedule (makeWait (withCount t s (predℤ (countOf t s))) (currentOf t) s))
+  module _ (b : (eqb (currentOf t) 0 && leZ (countOf t s) (pos 0)) ≡ false) where
+    wait-blocks : below0 (predℤ (countOf t s)) ≡ true → step t (Wait z) ≡ ended (makeWait (withCount t s (predℤ (countOf t s))) (currentOf t) s) (Switches (pos 1))
+    unfolding step
+    wait-blocks n = rw (is, lt-leb semaphoreLimit s h, u, b, n) refl
+
+    wait-goes : below0 (predℤ (countOf t s)) ≡ false → step t (Wait z) ≡ ended (withCount t s (predℤ (countOf t s))) (Done (pos 1))
+    unfolding step
+    wait-goes n = rw (is, lt-leb semaphoreLimit s h, u, b, n) refl
+
+  signal-full : leZ largest (countOf t s) ≡ true → step t (Signal z) ≡ refused 5 t
   unfolding step
-  wait-blocks b n = rw (lt-leb semaphoreLimit s h, u, b, n) refl
+  signal-full b = rw (is, lt-leb semaphoreLimit s h, u, b) refl
 
-  wait-goes : (eqb (currentOf t) 0 && leZ (countOf t s) (pos 0)) ≡ false → below0 (predℤ (countOf t s)) ≡ false
-      → step t (Wait (pos s)) ≡ done (pos 1) (withCount t s (predℤ (countOf t s)))
-  unfolding step
-  wait-goes b n = rw (lt-leb semaphoreLimit s h, u, b, n) refl
+  module _ (b : leZ largest (countOf t s) ≡ false) where
+    signal-frees : below0 (countOf t s) ≡ true → step t (Signal z) ≡ ended (makeReady (withCount t s (sucℤ (countOf t s))) (first (queue t s))) (Switches (pos 1))
+    unfolding step
+    signal-frees n = rw (is, lt-leb semaphoreLimit s h, u, b, n) refl
 
-  signal-full : leZ largest (countOf t s) ≡ true → step t (Signal (pos s)) ≡ refused 5 t
-  unfolding step
-  signal-full b = rw (lt-leb semaphoreLimit s h, u, b) refl
+    signal-goes : below0 (countOf t s) ≡ false → step t (Signal z) ≡ ended (withCount t s (sucℤ (countOf t s))) (Done (pos 1))
+    unfolding step
+    signal-goes n = rw (is, lt-leb semaphoreLimit s h, u, b, n) refl
 
-  signal-frees : leZ largest (countOf t s) ≡ false → below0 (countOf t s) ≡ true
-      → step t (Signal (pos s)) ≡ done (pos 1) (reschedule (makeReady (withCount t s (sucℤ (countOf t s))) (first (queue t s))))
-  unfolding step
-  signal-frees b n = rw (lt-leb semaphoreLimit s h, u, b, n) refl
-
-  signal-goes : leZ largest (countOf t s) ≡ false → below0 (countOf t s) ≡ false
-      → step t (Signal (pos s)) ≡ done (pos 1) (withCount t s (sucℤ (countOf t s)))
-  unfolding step
-  signal-goes b n = rw (lt-leb semaphoreLimit s h, u, b, n) refl
-
-module _ (s : ℕ) (h : s < semaphoreLimit) (a : List ℕ) (n : ℤ) (count : Tells (λ t. countOf t s) a n) (used : Tells (λ t. isUsed t s) a true) where
-  is : (t : Tables) → Stands t a → isUsed t s ≡ true
+module _ (z : ℤ) (s : ℕ) (a : List ℕ) (w : Chosen z a (Used s)) (n : ℤ) (count : Tells (λ t. countOf t s) a n) where
+  used : (t : Tables) → Stands t a → isUsed t s ≡ true
   unfolding Tells
-  is t st = sym (used t st)
+  used t st = sym (w .2 t st)
 
-  module _ (c : ℕ) (current : Tells (found 1) a c) where
+  module _ (c : ℕ) (runs : Runs c a) where
     bars : (t : Tables) → Stands t a → Sound t → (eqb c 0 && leZ n (pos 0)) ≡ (eqb (currentOf t) 0 && leZ (countOf t s) (pos 0))
     unfolding Tells
-    bars t st S = ap (λ (z : ℕ). eqb z 0 && leZ n (pos 0)) (runs c a current t st S .1) ∙ ap (λ (z : ℤ). eqb (currentOf t) 0 && leZ z (pos 0)) (count t st)
+    bars t st S = ap (λ (p : ℕ). eqb p 0 && leZ n (pos 0)) (runs t st S) ∙ ap (λ (m : ℤ). eqb (currentOf t) 0 && leZ m (pos 0)) (count t st)
 
-    pub wait-10 : (eqb c 0 && leZ n (pos 0)) ≡ true → Meets (λ t. step t (Wait (pos s))) a a (Refused 10)
-    wait-10 e = refuses (λ t. step t (Wait (pos s))) 10 a (λ t st S. wait-barred t s h (is t st) (sym (bars t st S) ∙ e))
+    pub wait-10 : (eqb c 0 && leZ n (pos 0)) ≡ true → Leads (λ t. step t (Wait z)) a a (Refused 10)
+    wait-10 e = refuses (λ t. step t (Wait z)) 10 a (λ t st S. wait-barred t z s (w .0) (w .1) (used t st) (sym (bars t st S) ∙ e))
 
     module _ (free : (eqb c 0 && leZ n (pos 0)) ≡ false) (m : ℤ) (less : m ≡ lower n) (b : List ℕ) (put : Turns (λ t. withCount t s m) a b) where
       lowers : (t : Tables) → Stands t a → Sound t → m ≡ predℤ (countOf t s)
       unfolding Tells
       lowers t st S = less ∙ ap lower (count t st) ∙ lower-sound S s
 
-      pub wait-block : (d e : List ℕ) → below0 m ≡ true → (c < processLimit → Turns (λ t. makeWait t c s) b d) → Turns reschedule d e → Meets (λ t. step t (Wait (pos s))) a e (Done (pos 1))
-      unfolding Turns
-      wait-block d e neg join run =
-          does (λ t. step t (Wait (pos s))) (pos 1) a e (λ t st S.
+      pub wait-block : (d : List ℕ) → below0 m ≡ true → (c < processLimit → Turns (λ t. makeWait t c s) b d) → Leads (λ t. step t (Wait z)) a d (Switches (pos 1))
+      unfolding Leads Turns
+      wait-block d neg join t st S =
           let q = lowers t st S in
-          let w = runs c a current t st S in (
-            reschedule (makeWait (withCount t s (predℤ (countOf t s))) (currentOf t) s),
-            wait-blocks t s h (is t st) (sym (bars t st S) ∙ free) (ap below0 (sym q) ∙ neg),
-            subst (λ (z : ℤ). Stands (reschedule (makeWait (withCount t s z) (currentOf t) s)) e) q
-                (subst (λ (z : ℕ). Stands (reschedule (makeWait (withCount t s m) z s)) e) (w .1)
-                (run (makeWait (withCount t s m) c s) (join (w .0) (withCount t s m) (put t st)))),
-          ))
+          let p = runs t st S in
+          let v : Tables = withCount t s (predℤ (countOf t s)) in (
+            makeWait v (currentOf t) s,
+            wait-blocks t z s (w .0) (w .1) (used t st) (sym (bars t st S) ∙ free) (ap below0 (sym q) ∙ neg),
+            subst (λ (k : ℤ). Stands (makeWait (withCount t s k) (currentOf t) s) d) q
+                (subst (λ (k : ℕ). Stands (makeWait (withCount t s m) k s) d) p (join (subst (λ (k : ℕ). k < processLimit) (sym p) (current-below S)) (withCount t s m) (put t st))),
+            wait-stopped S s (record { used = isUsed t s; count = predℤ (countOf t s) }),
+          )
 
-      pub wait-go : below0 m ≡ false → Meets (λ t. step t (Wait (pos s))) a b (Done (pos 1))
-      unfolding Turns
-      wait-go high =
-          does (λ t. step t (Wait (pos s))) (pos 1) a b (λ t st S.
-          let q = lowers t st S in (
-            withCount t s (predℤ (countOf t s)),
-            wait-goes t s h (is t st) (sym (bars t st S) ∙ free) (ap below0 (sym q) ∙ high),
-            subst (λ (z : ℤ). Stands (withCount t s z) b) q (put t st),
-          ))
+      pub wait-go : below0 m ≡ false → Leads (λ t. step t (Wait z)) a b (Done (pos 1))
+      unfolding Leads Turns line
+      wait-go high t st S =
+          let q = lowers t st S in
+          let u : Tables = withCount t s (predℤ (countOf t s)) in (
+            u,
+            wait-goes t z s (w .0) (w .1) (used t st) (sym (bars t st S) ∙ free) (ap below0 (sym q) ∙ high),
+            subst (λ (k : ℤ). Stands (withCount t s k) b) q (put t st),
+            still S u refl,
+          )
 
-  pub signal-5 : leZ largest n ≡ true → Meets (λ t. step t (Signal (pos s))) a a (Refused 5)
+  pub signal-5 : leZ largest n ≡ true → Leads (λ t. step t (Signal z)) a a (Refused 5)
   unfolding Tells
-  signal-5 e = refuses (λ t. step t (Signal (pos s))) 5 a (λ t st S. signal-full t s h (is t st) (ap (leZ largest) (sym (count t st)) ∙ e))
+  signal-5 e = refuses (λ t. step t (Signal z)) 5 a (λ t st S. signal-full t z s (w .0) (w .1) (used t st) (ap (leZ largest) (sym (count t st)) ∙ e))
 
   module _ (free : leZ largest n ≡ false) (m : ℤ) (more : m ≡ raise n) (b : List ℕ) (put : Turns (λ t. withCount t s m) a b) where
     raises : (t : Tables) → Stands t a → m ≡ sucℤ (countOf t s)
@@ -108,26 +116,29 @@ module _ (s : ℕ) (h : s < semaphoreLimit) (a : List ℕ) (n : ℤ) (count : Te
     unfolding Tells
     roomy t st = ap (leZ largest) (sym (count t st)) ∙ free
 
-    pub signal-free : (w : ℕ) (d e : List ℕ) → below0 n ≡ true → Tells (found (4 + s)) b w → (w < processLimit → Turns (λ t. makeReady t w) b d) → Turns reschedule d e → Meets (λ t. step t (Signal (pos s))) a e (Done (pos 1))
-    unfolding Tells Turns firstOr line
-    signal-free w d e neg head join run =
-        does (λ t. step t (Signal (pos s))) (pos 1) a e (λ t st S.
+    pub signal-free : (p : ℕ) (d : List ℕ) → below0 n ≡ true → Tells (found (4 + s)) b p → (p < processLimit → Turns (λ t. makeReady t p) b d) → Leads (λ t. step t (Signal z)) a d (Switches (pos 1))
+    unfolding Leads Tells Turns firstOr line
+    signal-free p d neg head join t st S =
         let owed : below0 (countOf t s) ≡ true = ap below0 (sym (count t st)) ∙ neg in
         let v : Tables = withCount t s m in
-        let x = told-somebody (4 + s) w b head v (put t st) (λ z. somebody-waits S s owed (sym (line-queue v s h) ∙ told-nobody (4 + s) w b head v (put t st) z)) in
-        let f : w ≡ first (queue t s) = ap first (sym (sym (line-queue v s h) ∙ x .2)) in (
-          reschedule (makeReady (withCount t s (sucℤ (countOf t s))) (first (queue t s))),
-          signal-frees t s h (is t st) (roomy t st) owed,
-          subst (λ (z : ℤ). Stands (reschedule (makeReady (withCount t s z) (first (queue t s)))) e) (raises t st)
-              (subst (λ (z : ℕ). Stands (reschedule (makeReady v z)) e) f
-              (run (makeReady v w) (join (x .0) v (put t st)))),
-        ))
+        let x = told-somebody (4 + s) p b head v (put t st) (λ k. somebody-waits S s owed (sym (line-queue v s (w .1)) ∙ told-nobody (4 + s) p b head v (put t st) k)) in
+        let q : queue t s ≡ p ∷ x .1 = sym (line-queue v s (w .1)) ∙ x .2 in
+        let f : p ≡ first (queue t s) = ap first (sym q) in
+        let waits : stateOf t p ≡ Waiting s = waits-on (stateOf t p) s (line-first t (waitsOn s) p (x .1) q) in (
+          makeReady (withCount t s (sucℤ (countOf t s))) (first (queue t s)),
+          signal-frees t z s (w .0) (w .1) (used t st) (roomy t st) owed,
+          subst (λ (k : ℤ). Stands (makeReady (withCount t s k) (first (queue t s))) d) (raises t st)
+              (subst (λ (k : ℕ). Stands (makeReady v k) d) f (join (x .0) v (put t st))),
+          subst (λ (k : ℕ). Only (currentOf t) (makeReady (withCount t s (sucℤ (countOf t s))) k)) f
+              (ready-still S (withCount t s (sucℤ (countOf t s))) refl p (live-slot (S .laid) p (x .0)) (live-once (S .laid) p (x .0)) (ap isCurrent waits)),
+        )
 
-    pub signal-go : below0 n ≡ false → Meets (λ t. step t (Signal (pos s))) a b (Done (pos 1))
-    unfolding Tells Turns
-    signal-go high =
-        does (λ t. step t (Signal (pos s))) (pos 1) a b (λ t st S. (
-          withCount t s (sucℤ (countOf t s)),
-          signal-goes t s h (is t st) (roomy t st) (ap below0 (sym (count t st)) ∙ high),
-          subst (λ (z : ℤ). Stands (withCount t s z) b) (raises t st) (put t st),
-        ))
+    pub signal-go : below0 n ≡ false → Leads (λ t. step t (Signal z)) a b (Done (pos 1))
+    unfolding Leads Tells Turns line
+    signal-go high t st S =
+        let u : Tables = withCount t s (sucℤ (countOf t s)) in (
+          u,
+          signal-goes t z s (w .0) (w .1) (used t st) (roomy t st) (ap below0 (sym (count t st)) ∙ high),
+          subst (λ (k : ℤ). Stands (withCount t s k) b) (raises t st) (put t st),
+          still S u refl,
+        )

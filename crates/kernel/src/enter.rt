@@ -1,6 +1,5 @@
-// A call by its number: 13 and 14, then the call's own checks.
+// A call by its number: 13, then 14 if an argument that the call doesn't use isn't 0, then the call's own checks.
 use crate::count::count_of;
-use crate::counts::is_zero;
 use crate::delete::delete;
 use crate::kill::kill;
 use crate::make_process::make_process;
@@ -8,57 +7,108 @@ use crate::make_semaphore::make_semaphore;
 use crate::reset::reset;
 use crate::resume::resume;
 use crate::signal::signal;
+use crate::step::Step;
+use crate::step::Told;
+use crate::step::finish;
 use crate::suspend::suspend;
 use crate::wait::wait;
 use crate::yields::yields;
-use rules::Answer;
+use layout::state::CURRENT;
+use scheduling::counts::is_zero;
+use scheduling::row::find;
 ghost use mathlib.Core.Path.{_≡_};
+ghost use Prim.Native.Nat.{_<_, _≤_};
 ghost use lib.ListN.{length};
 ghost use Rattle.layout.specs.Offsets.{size};
 ghost use Rattle.rules.specs.Enter.{numbered};
-ghost use Rattle.kernel.specs.Unused.{unused};
-ghost use Rattle.kernel.specs.Meets.{Meets};
+ghost use Rattle.kernel.specs.Steps.{Leads, Meets, Runs};
 
-// An argument that the call doesn't use isn't 0.
-fn spare(number: u8, a: i32, b: i32) -> bool
-    ensures { λ r. ⌜ r ≡ unused number a b ⌝ }
+// 01 to 05, on semaphores.
+fn call_low(bytes: &mut [u8], c: u8, number: u8, a: i32, b: i32) -> Step
+    requires { ⌜ length (now bytes) ≡ size ⌝ }
+    ensures { λ r. ⌜ (number < 6 → Runs c (now (bytes .entry)) → Leads (λ t. numbered t number a b) (now (bytes .entry)) (now (bytes .exit)) r) ⌝ }
 {
-    if number == 5 {
-        return false;
+    match number {
+        1 => if is_zero(b) {
+            wait(bytes, c, a)
+        } else {
+            Step::Refused(14)
+        },
+        2 => if is_zero(b) {
+            signal(bytes, a)
+        } else {
+            Step::Refused(14)
+        },
+        3 => if is_zero(b) {
+            make_semaphore(bytes, a)
+        } else {
+            Step::Refused(14)
+        },
+        4 => if is_zero(b) {
+            delete(bytes, a)
+        } else {
+            Step::Refused(14)
+        },
+        5 => reset(bytes, a, b),
+        _ => Step::Refused(13),
     }
-    if number == 10 {
-        if is_zero(a) {
-            return !is_zero(b);
-        }
-        return true;
-    }
-    !is_zero(b)
 }
 
-pub fn call(bytes: &mut [u8], number: u8, a: i32, b: i32) -> Answer
+// 06 to 0b, on processes, and the count.
+fn call_high(bytes: &mut [u8], number: u8, a: i32, b: i32) -> Step
+    requires { ⌜ length (now bytes) ≡ size ⌝ }
+    ensures { λ r. ⌜ (6 ≤ number → Leads (λ t. numbered t number a b) (now (bytes .entry)) (now (bytes .exit)) r) ⌝ }
+{
+    match number {
+        6 => if is_zero(b) {
+            make_process(bytes, a)
+        } else {
+            Step::Refused(14)
+        },
+        7 => if is_zero(b) {
+            resume(bytes, a)
+        } else {
+            Step::Refused(14)
+        },
+        8 => if is_zero(b) {
+            suspend(bytes, a)
+        } else {
+            Step::Refused(14)
+        },
+        9 => if is_zero(b) {
+            kill(bytes, a)
+        } else {
+            Step::Refused(14)
+        },
+        10 => if is_zero(a) & is_zero(b) {
+            yields(bytes)
+        } else {
+            Step::Refused(14)
+        },
+        11 => if is_zero(b) {
+            count_of(bytes, a)
+        } else {
+            Step::Refused(14)
+        },
+        _ => Step::Refused(13),
+    }
+}
+
+fn act(bytes: &mut [u8], c: u8, number: u8, a: i32, b: i32) -> Step
+    requires { ⌜ length (now bytes) ≡ size ⌝ }
+    ensures { λ r. ⌜ (Runs c (now (bytes .entry)) → Leads (λ t. numbered t number a b) (now (bytes .entry)) (now (bytes .exit)) r) ⌝ }
+{
+    if number < 6 {
+        return call_low(bytes, c, number, a, b);
+    }
+    call_high(bytes, number, a, b)
+}
+
+pub fn call(bytes: &mut [u8], number: u8, a: i32, b: i32) -> Told
     requires { ⌜ length (now bytes) ≡ size ⌝ }
     ensures { λ r. ⌜ Meets (λ t. numbered t number a b) (now (bytes .entry)) (now (bytes .exit)) r ⌝ }
 {
-    if number < 1 {
-        return Answer::Refused(13);
-    }
-    if 11 < number {
-        return Answer::Refused(13);
-    }
-    if spare(number, a, b) {
-        return Answer::Refused(14);
-    }
-    match number {
-        1 => wait(bytes, a),
-        2 => signal(bytes, a),
-        3 => make_semaphore(bytes, a),
-        4 => delete(bytes, a),
-        5 => reset(bytes, a, b),
-        6 => make_process(bytes, a),
-        7 => resume(bytes, a),
-        8 => suspend(bytes, a),
-        9 => kill(bytes, a),
-        10 => yields(bytes),
-        _ => count_of(bytes, a),
-    }
+    let c = find(bytes, CURRENT);
+    let step = act(bytes, c, number, a, b);
+    finish(bytes, c, step)
 }

@@ -1,19 +1,15 @@
 // The eleven calls, in place on the lent bytes: one file a call.
 pub mod count;
-pub mod counts;
 pub mod delete;
 pub mod enter;
-pub mod index;
 pub mod kill;
 pub mod make_process;
 pub mod make_semaphore;
 pub mod release;
 pub mod reset;
 pub mod resume;
-pub mod row;
-pub mod schedule;
-pub mod search;
 pub mod signal;
+pub mod step;
 pub mod suspend;
 pub mod target;
 pub mod wait;

@@ -1,54 +1,41 @@
-// Call 02: signal.
-use crate::counts::below_zero;
-use crate::counts::is_full;
-use crate::counts::raised;
-use crate::row::find;
-use crate::schedule::make_ready;
-use crate::schedule::reschedule;
+// Call 02, signal a: the count plus 1; if the old count was below 0 the queue's head becomes ready, then a reschedule follows. Answers 1; refuses with 1, 2 and 5.
+use crate::step::Step;
 use crate::target::Target;
 use crate::target::used_semaphore;
 use layout::fields::count;
 use layout::fields::put_count;
 use layout::state::WAITING;
-use rules::Answer;
+use scheduling::counts::below_zero;
+use scheduling::counts::is_full;
+use scheduling::counts::raised;
+use scheduling::row::find;
+use scheduling::schedule::make_ready;
 ghost use mathlib.Core.Path.{_≡_};
-ghost use mathlib.Core.Bool.{true};
-ghost use Prim.Native.Nat.{_<_};
 ghost use lib.ListN.{length};
-ghost use lib.IntN.{pos};
-ghost use Rattle.tables.specs.Limits.{semaphoreLimit};
-ghost use Rattle.tables.specs.Readers.{isUsed};
 ghost use Rattle.layout.specs.Offsets.{size};
-ghost use Rattle.layout.specs.Stands.{Tells};
 ghost use Rattle.rules.specs.Calls.{Signal, step};
-ghost use Rattle.kernel.specs.Meets.{Meets};
+ghost use Rattle.kernel.specs.Steps.{Leads};
 
-fn signal_on(bytes: &mut [u8], s: u8) -> Answer
-    requires { ⌜ (length (now bytes) ≡ size) × (s < semaphoreLimit) ⌝ }
-    ensures { λ r. ⌜ (Tells (λ t. isUsed t s) (now (bytes .entry)) true → Meets (λ t. step t (Signal (pos s))) (now (bytes .entry)) (now (bytes .exit)) r) ⌝ }
-{
-    let n = count(bytes, s);
-    if is_full(n) {
-        return Answer::Refused(5);
-    }
-    let m = raised(n);
-    put_count(bytes, s, m);
-    if below_zero(n) {
-        let w = find(bytes, WAITING + s);
-        make_ready(bytes, w);
-        reschedule(bytes);
-        return Answer::Done(1);
-    }
-    Answer::Done(1)
-}
-
-pub fn signal(bytes: &mut [u8], a: i32) -> Answer
+pub fn signal(bytes: &mut [u8], a: i32) -> Step
     requires { ⌜ length (now bytes) ≡ size ⌝ }
-    ensures { λ r. ⌜ Meets (λ t. step t (Signal a)) (now (bytes .entry)) (now (bytes .exit)) r ⌝ }
+    ensures { λ r. ⌜ Leads (λ t. step t (Signal a)) (now (bytes .entry)) (now (bytes .exit)) r ⌝ }
 {
     let target = used_semaphore(bytes, a);
     match target {
-        Target::Refusal(n) => Answer::Refused(n),
-        Target::Used(s) => signal_on(bytes, s),
+        Target::Refusal(n) => Step::Refused(n),
+        Target::Used(s) => {
+            let n = count(bytes, s);
+            if is_full(n) {
+                return Step::Refused(5);
+            }
+            let m = raised(n);
+            put_count(bytes, s, m);
+            if below_zero(n) {
+                let w = find(bytes, WAITING + s);
+                make_ready(bytes, w);
+                return Step::Switches(1);
+            }
+            Step::Done(1)
+        }
     }
 }

@@ -1,12 +1,12 @@
 // The first two checks of every call on a semaphore that is there.
-use crate::index::Index;
-use crate::index::index_below;
 use layout::fields::is_used;
+use scheduling::index::Index;
+use scheduling::index::index_below;
 use tables::Tables;
 ghost use mathlib.Core.Path.{_≡_};
 ghost use lib.ListN.{length};
 ghost use Rattle.layout.specs.Offsets.{size};
-ghost use Rattle.kernel.specs.Arguments.{Chosen};
+ghost use Rattle.kernel.specs.Target.{Chosen};
 
 pub enum Target {
     Used(u8),

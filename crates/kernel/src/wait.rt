@@ -1,29 +1,22 @@
-// Call 01: wait.
-use crate::counts::below_zero;
-use crate::counts::is_spent;
-use crate::counts::lowered;
-use crate::row::find;
-use crate::schedule::make_wait;
-use crate::schedule::reschedule;
+// Call 01, wait a: the count minus 1; if the new count is below 0 the caller waits at the queue's tail, then a reschedule follows. Answers 1; refuses with 1, 2 and 10.
+use crate::step::Step;
 use crate::target::Target;
 use crate::target::used_semaphore;
 use layout::fields::count;
 use layout::fields::put_count;
-use layout::state::CURRENT;
-use rules::Answer;
+use scheduling::counts::below_zero;
+use scheduling::counts::is_spent;
+use scheduling::counts::lowered;
+use scheduling::schedule::make_wait;
 ghost use mathlib.Core.Path.{_≡_};
-ghost use mathlib.Core.Bool.{true, _&&_};
-ghost use Prim.Native.Nat.{_<_};
+ghost use mathlib.Core.Bool.{_&&_};
 ghost use lib.Dec.{eqb};
 ghost use lib.ListN.{length};
 ghost use lib.IntN.{pos};
 ghost use lib.Signed.{leZ};
-ghost use Rattle.tables.specs.Limits.{semaphoreLimit};
-ghost use Rattle.tables.specs.Readers.{isUsed};
 ghost use Rattle.layout.specs.Offsets.{size};
-ghost use Rattle.layout.specs.Stands.{Tells};
 ghost use Rattle.rules.specs.Calls.{Wait, step};
-ghost use Rattle.kernel.specs.Meets.{Meets};
+ghost use Rattle.kernel.specs.Steps.{Leads, Runs};
 
 // Process 0 may not block.
 fn barred(p: u8, c: i32) -> bool
@@ -35,32 +28,26 @@ fn barred(p: u8, c: i32) -> bool
     false
 }
 
-fn wait_on(bytes: &mut [u8], s: u8) -> Answer
-    requires { ⌜ (length (now bytes) ≡ size) × (s < semaphoreLimit) ⌝ }
-    ensures { λ r. ⌜ (Tells (λ t. isUsed t s) (now (bytes .entry)) true → Meets (λ t. step t (Wait (pos s))) (now (bytes .entry)) (now (bytes .exit)) r) ⌝ }
-{
-    let c = find(bytes, CURRENT);
-    let n = count(bytes, s);
-    if barred(c, n) {
-        return Answer::Refused(10);
-    }
-    let m = lowered(n);
-    put_count(bytes, s, m);
-    if below_zero(m) {
-        make_wait(bytes, c, s);
-        reschedule(bytes);
-        return Answer::Done(1);
-    }
-    Answer::Done(1)
-}
-
-pub fn wait(bytes: &mut [u8], a: i32) -> Answer
+// `c` is the caller.
+pub fn wait(bytes: &mut [u8], c: u8, a: i32) -> Step
     requires { ⌜ length (now bytes) ≡ size ⌝ }
-    ensures { λ r. ⌜ Meets (λ t. step t (Wait a)) (now (bytes .entry)) (now (bytes .exit)) r ⌝ }
+    ensures { λ r. ⌜ (Runs c (now (bytes .entry)) → Leads (λ t. step t (Wait a)) (now (bytes .entry)) (now (bytes .exit)) r) ⌝ }
 {
     let target = used_semaphore(bytes, a);
     match target {
-        Target::Refusal(n) => Answer::Refused(n),
-        Target::Used(s) => wait_on(bytes, s),
+        Target::Refusal(n) => Step::Refused(n),
+        Target::Used(s) => {
+            let n = count(bytes, s);
+            if barred(c, n) {
+                return Step::Refused(10);
+            }
+            let m = lowered(n);
+            put_count(bytes, s, m);
+            if below_zero(m) {
+                make_wait(bytes, c, s);
+                return Step::Switches(1);
+            }
+            Step::Done(1)
+        }
     }
 }

@@ -1,16 +1,10 @@
-// Call 0a: yield.
-use crate::schedule::reschedule;
-use rules::Answer;
-ghost use mathlib.Core.Path.{_≡_};
-ghost use lib.ListN.{length};
-ghost use Rattle.layout.specs.Offsets.{size};
+// Call 0a, yield: a reschedule follows. Answers 1.
+use crate::step::Step;
 ghost use Rattle.rules.specs.Calls.{Yield, step};
-ghost use Rattle.kernel.specs.Meets.{Meets};
+ghost use Rattle.kernel.specs.Steps.{Leads};
 
-pub fn yields(bytes: &mut [u8]) -> Answer
-    requires { ⌜ length (now bytes) ≡ size ⌝ }
-    ensures { λ r. ⌜ Meets (λ t. step t Yield) (now (bytes .entry)) (now (bytes .exit)) r ⌝ }
+pub fn yields(bytes: &[u8]) -> Step
+    ensures { λ r. ⌜ Leads (λ t. step t Yield) (now (bytes .entry)) (now (bytes .entry)) r ⌝ }
 {
-    reschedule(bytes);
-    Answer::Done(1)
+    Step::Switches(1)
 }

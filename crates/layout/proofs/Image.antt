@@ -31,7 +31,7 @@ use Rattle.layout.proofs.Readers.{byte-waiting, place-read, process-rea
 
 -- Tables stand in their bytes, and in no others
 
-bytes-long : (t : Tables) → length (toBytes t) ≡ size
+pub bytes-long : (t : Tables) → length (toBytes t) ≡ size
 unfolding toBytes
 bytes-long t = listed-length (byteOf t) 0 size
 

@@ -74,8 +74,12 @@ module _ {t : Tables} (S : Sound t) (s : ℕ) (x : Semaphore) where
   release-runs [] e h = running-entry (S .running) s x
   release-runs (p ∷ ps) e h = absurd (true≢false h)
 
+  -- nobody starts or stops
+  pub release-current : currents (release t s x .tables) ≡ currents t
+  release-current = freed .few ∙ line-entry t s x isCurrent
+
   pub release-prepared : Prepared (release t s x)
-  release-prepared = record { laid = freed .laid; few = rw (freed .few, line-entry t s x isCurrent, S .running .one) (omega arith); zero = freed .zero; runs = release-runs (queue t s) refl }
+  release-prepared = record { laid = freed .laid; few = rw (release-current, S .running .one) (omega arith); zero = freed .zero; runs = release-runs (queue t s) refl }
 
   pub release-effect : isUsed t s ≡ true → Effect t (finish (release t s x) .tables) s (x .used) (x .count) []
   release-effect hu =

@@ -4,19 +4,10 @@ use mir.ValLaws.{toZ-ofZ}
 use borrow.Author.Needs.{needs}
 use Rattle.rules.specs.Calls.{Count}
 use Rattle.kernel.proofs.count.count_of.Statement.{statement}
-use Rattle.kernel.proofs.Arguments.{chosen}
+use Rattle.kernel.proofs.CallLaws.{count-told, semaphore-refused}
+use Rattle.kernel.proofs.TargetLaws.{chosen}
 use Rattle.layout.proofs.Compose.{told-as}
-use Rattle.kernel.proofs.CallLaws.{semaphore-refused, used-count}
 use Rattle.kernel.proofs.count.count_of.Tie as tie
-
-used-semaphore-requires : tie.Need-used-semaphore-requires
-used-semaphore-requires c κs = search needs
-
-enum-known-target : tie.Need-enum-known-target
-enum-known-target c = search needs
-
-enum-known-target-2 : tie.Need-enum-known-target-2
-enum-known-target-2 c = search needs
 
 count-requires : tie.Need-count-requires
 count-requires c κs = let below = (chosen _ _ _ _ (c .before .before .before .before .before .fits .a) (c .before .target2 .given .1) (c .before .before .before .used-semaphore .ensures)) .1 in search needs
@@ -25,15 +16,17 @@ returns : tie.Need-returns
 returns c = semaphore-refused (c .before .before .before .before .before .args .a) _ _ (chosen _ _ _ _ (c .before .before .before .before .before .fits .a) (c .before .target .given .1) (c .before .before .before .used-semaphore .ensures)) (Count (c .before .before .before .before .before .args .a)) (λ t. refl)
 
 returns-2 : tie.Need-returns-2
-returns-2 c = used-count _ _ _ _ (chosen _ _ _ _ (c .before .before .before .before .before .before .fits .a) (c .before .before .target2 .given .1) (c .before .before .before .before .used-semaphore .ensures)) (told-as _ _ _ _ (toZ-ofZ w32 _ (record { sfits = c .count .ok })) (c .count .ensures))
+returns-2 c =
+    let w = chosen _ _ _ _ (c .before .before .before .before .before .before .fits .a) (c .before .before .target2 .given .1) (c .before .before .before .before .used-semaphore .ensures) in
+    count-told _ _ _ _ w (told-as _ _ _ _ (toZ-ofZ w32 _ (record { sfits = c .count .ok })) (c .count .ensures))
 
 pub count-of-spec : {M : Type 1} → statement M
 count-of-spec =
     tie.close
     (tie.spec
-    used-semaphore-requires
-    enum-known-target
-    enum-known-target-2
+    (λ c κs. search needs)
+    (λ c. search needs)
+    (λ c. search needs)
     count-requires
     returns
     returns-2)

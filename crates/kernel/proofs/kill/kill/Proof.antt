@@ -1,45 +1,81 @@
+-- By the checks in order, then by the state of the slot. Assumes nothing.
 use mathlib.Core.Path.{refl}
 use borrow.Author.Needs.{needs}
 use Rattle.rules.specs.Calls.{Kill}
-use Rattle.tables.specs.Limits.{processLimit}
+use Rattle.tables.specs.declared.State.the-variants.{Free, Ready, Suspended}
 use Rattle.kernel.proofs.kill.kill.Statement.{statement}
-use Rattle.kernel.proofs.Arguments.{number, passed}
-use Rattle.kernel.proofs.CallLaws.{numbered-goes, process-outside}
+use Rattle.kernel.proofs.CallLaws.{process-null, process-outside}
+use Rattle.kernel.proofs.ProcessLaws.{kill-by, kill-current, kill-still, kill-waiting, killed, refused-by}
+use Rattle.scheduling.proofs.IndexLaws.{passed}
 use Rattle.kernel.proofs.kill.kill.Tie as tie
 
-cast-index-below : tie.Need-cast-index-below
-cast-index-below c = search needs
-
-index-below-requires : tie.Need-index-below-requires
-index-below-requires c κs = search needs
-
-enum-told : tie.Need-enum-told
-enum-told c = search needs
-
-enum-known-index : tie.Need-enum-known-index
-enum-known-index c = search needs
-
-kill-at-requires : tie.Need-kill-at-requires
-kill-at-requires c κs = (search needs, number (c .before .before .before .before .before .before .args .a) processLimit _ (passed _ _ _ _ (c .before .before .before .before .before .before .fits .a) (c .before .before .before .before .index-below .ensures) (c .before .before .index .given .1)) .1)
-
 returns : tie.Need-returns
-returns c = process-outside (Kill (c .before .before .before .before .args .a)) (c .before .before .before .before .args .a) _ (λ t. refl) (passed _ _ _ _ (c .before .before .before .before .fits .a) (c .before .before .index-below .ensures) (c .enum-told .given .1))
-
-same-length : tie.Need-same-length
-same-length c = search needs
+returns c =
+    let at = passed _ _ _ _ (c .before .before .before .before .before .before .fits .a) (c .before .before .before .before .index-below .ensures) (c .before .before .index .given .1) in
+    process-null (Kill (c .before .before .before .before .before .before .args .a)) (c .before .before .before .before .before .before .args .a) _ _ (λ t. refl) at (c .if1 .taken)
 
 returns-2 : tie.Need-returns-2
-returns-2 c = numbered-goes Kill (c .before .before .before .before .before .before .before .before .before .args .a) _ _ _ _ _ (passed _ _ _ _ (c .before .before .before .before .before .before .before .before .before .fits .a) (c .before .before .before .before .before .before .before .index-below .ensures) (c .before .before .before .before .before .index .given .1)) (c .before .before .kill-at .ensures)
+returns-2 c = process-outside (Kill (c .before .before .before .before .args .a)) (c .before .before .before .before .args .a) _ (λ t. refl) (passed _ _ _ _ (c .before .before .before .before .fits .a) (c .before .before .index-below .ensures) (c .enum-told .given .1))
+
+returns-3 : tie.Need-returns-3
+returns-3 c =
+    let at-index-below = c .before .before .before .before .before .before .before .before in
+    let at = passed _ _ _ _ (at-index-below .before .before .fits .a) (at-index-below .index-below .ensures) (c .before .before .before .before .before .before .index .given .1) in
+    refused-by (at-index-below .before .before .args .a) _ at _ _ (c .before .before .process .ensures) (Kill (at-index-below .before .before .args .a)) (killed _) (kill-by (at-index-below .before .before .args .a) _ at (c .before .before .before .before .if1 .left)) Free 7 (λ t. refl) (c .enum-told2 .given .1)
+
+returns-4 : tie.Need-returns-4
+returns-4 c =
+    let at-if1 = c .before .before .before .before .before .before .before .before in
+    let at = passed _ _ _ _ (at-if1 .before .before .before .before .before .before .fits .a) (at-if1 .before .before .before .before .index-below .ensures) (at-if1 .before .before .index .given .1) in
+    kill-current (at-if1 .before .before .before .before .before .before .args .a) _ at _ _ (c .before .before .before .before .before .before .process .ensures) (at-if1 .if1 .left) _ (c .before .before .free-slot .ensures) (c .before .before .before .before .enum-told3 .given .1)
+
+returns-5 : tie.Need-returns-5
+returns-5 c =
+    let at-if1 = c .before .before .before .before .before .before .before .before in
+    let at = passed _ _ _ _ (at-if1 .before .before .before .before .before .before .fits .a) (at-if1 .before .before .before .before .index-below .ensures) (at-if1 .before .before .index .given .1) in
+    kill-still (at-if1 .before .before .before .before .before .before .args .a) _ at _ _ (c .before .before .before .before .before .before .process .ensures) (at-if1 .if1 .left) _ (c .before .before .free-slot2 .ensures) Ready (λ t. refl) refl (c .before .before .before .before .enum-told4 .given .1)
+
+returns-6 : tie.Need-returns-6
+returns-6 c =
+    let at-if1 = c .before .before .before .before .before .before .before .before in
+    let at = passed _ _ _ _ (at-if1 .before .before .before .before .before .before .fits .a) (at-if1 .before .before .before .before .index-below .ensures) (at-if1 .before .before .index .given .1) in
+    kill-still (at-if1 .before .before .before .before .before .before .args .a) _ at _ _ (c .before .before .before .before .before .before .process .ensures) (at-if1 .if1 .left) _ (c .before .before .free-slot3 .ensures) Suspended (λ t. refl) refl (c .before .before .before .before .enum-told5 .given .1)
+
+returns-7 : tie.Need-returns-7
+returns-7 c =
+    let at-state = c .before .before .before .before .before .before .before .before .before in
+    let at-index-below = at-state .before .before .before .before .before .before .before .before in
+    let at = passed _ _ _ _ (at-index-below .before .before .fits .a) (at-index-below .index-below .ensures) (at-state .before .before .before .before .before .before .index .given .1) in
+    kill-waiting (at-index-below .before .before .args .a) _ at _ _ (at-state .before .before .process .ensures) (at-state .before .before .before .before .if1 .left) _ _ _ (at-state .state .given .1) (c .before .before .before .before .before .before .uncount .ensures) (c .before .before .free-slot4 .ensures)
 
 pub kill-spec : {M : Type 1} → statement M
 kill-spec =
     tie.close
     (tie.spec
-    cast-index-below
-    index-below-requires
-    enum-told
-    enum-known-index
-    kill-at-requires
+    (λ c. search needs)
+    (λ c κs. search needs)
+    (λ c. search needs)
+    (λ c. search needs)
     returns
-    same-length
-    returns-2)
+    (λ c κs. search needs)
+    (λ c. search needs)
+    (λ c. search needs)
+    (λ c κs. search needs)
+    (λ c. search needs)
+    (λ c κs. search needs)
+    (λ c. search needs)
+    (λ c κs. search needs)
+    (λ c. search needs)
+    (λ c κs. search needs)
+    (λ c κs. search needs)
+    returns-2
+    (λ c. search needs)
+    returns-3
+    (λ c. search needs)
+    returns-4
+    (λ c. search needs)
+    returns-5
+    (λ c. search needs)
+    returns-6
+    (λ c. search needs)
+    returns-7)

@@ -1,53 +1,54 @@
-use Prim.Native.Nat.{_+_}
-use native.Mathlib.Omega.{arith}
-use mathlib.Core.Path.{_≡_}
+-- By the two checks in order. Assumes nothing.
+use mir.Syntax.{w32}
+use mir.ValLaws.{toZ-pos}
 use borrow.Author.Needs.{needs}
-use Rattle.rules.specs.Calls.{MakeProcess}
-use Rattle.tables.specs.Limits.{priorityLimit}
-use Rattle.kernel.specs.Arguments.{indexBelow}
-use Rattle.kernel.specs.declared.index.Index.the-variants.{At}
 use Rattle.kernel.proofs.make_process.make_process.Statement.{statement}
-use Rattle.kernel.proofs.Arguments.{number, passed}
-use Rattle.kernel.proofs.CallLaws.{numbered-goes}
-use Rattle.kernel.proofs.MakeLaws.{make-11}
+use Rattle.kernel.proofs.MakeLaws.{make-11, make-11-null, make-8, make-process-done}
+use Rattle.scheduling.proofs.IndexLaws.{passed}
 use Rattle.kernel.proofs.make_process.make_process.Tie as tie
 
-add-index-below : tie.Need-add-index-below
-add-index-below c = search needs
-
-index-below-requires : tie.Need-index-below-requires
-index-below-requires c κs = search needs
-
-enum-told : tie.Need-enum-told
-enum-told c = search needs
-
-enum-known-index : tie.Need-enum-known-index
-enum-known-index c = search needs
-
-make-process-of-requires : tie.Need-make-process-of-requires
-make-process-of-requires c κs = search needs
-
 returns : tie.Need-returns
-returns c = make-11 (c .before .before .before .before .args .a) _ (passed _ _ _ _ (c .before .before .before .before .fits .a) (c .before .before .index-below .ensures) (c .enum-told .given .1))
-
-same-length : tie.Need-same-length
-same-length c = search needs
+returns c =
+    let at = passed _ _ _ _ (c .before .before .before .before .before .before .fits .a) (c .before .before .before .before .index-below .ensures) (c .before .before .index .given .1) in
+    make-11-null (c .before .before .before .before .before .before .args .a) _ at _ (c .if1 .taken)
 
 returns-2 : tie.Need-returns-2
 returns-2 c =
-    let at : indexBelow (c .before .before .before .before .before .before .before .before .before .args .a) (priorityLimit + 1) ≡ At _ = passed _ _ _ _ (c .before .before .before .before .before .before .before .before .before .fits .a) (c .before .before .before .before .before .before .before .index-below .ensures) (c .before .before .before .before .before .index .given .1) in
-    let small = number (c .before .before .before .before .before .before .before .before .before .args .a) (priorityLimit + 1) _ at .1 in
-    numbered-goes MakeProcess _ _ _ _ _ _ at (c .before .before .make-process-of .ensures (omega arith))
+    let at-index = c .before .before .before .before .before .before .before in
+    let at = passed _ _ _ _ (at-index .before .before .before .before .fits .a) (at-index .before .before .index-below .ensures) (at-index .index .given .1) in
+    make-8 (at-index .before .before .before .before .args .a) _ at (c .before .before .before .before .before .if1 .left) _ _ _ (c .before .before .before .next-process .ensures) (c .before .free-round .ensures .1) (c .if2 .taken)
+
+returns-3 : tie.Need-returns-3
+returns-3 c = make-11 (c .before .before .before .before .args .a) _ (passed _ _ _ _ (c .before .before .before .before .fits .a) (c .before .before .index-below .ensures) (c .enum-told .given .1))
+
+returns-4 : tie.Need-returns-4
+returns-4 c =
+    let at-put-process = c .before .before .before .before .before .before .before in
+    let at-if1 = at-put-process .before .before .before .before .before .before .before in
+    let at = passed _ _ _ _ (at-if1 .before .before .before .before .before .before .fits .a) (at-if1 .before .before .before .before .index-below .ensures) (at-if1 .before .before .index .given .1) in
+    let move = rw (c .before .before .before .one-past .ensures) at (c .before .before .put-next-process .ensures) in
+    make-process-done (at-if1 .before .before .before .before .before .before .args .a) _ at (at-if1 .if1 .left) _ _ _ (at-put-process .before .before .before .before .before .next-process .ensures) (at-put-process .before .before .before .free-round .ensures .1) _ _ (at-put-process .put-process .ensures) move _ (toZ-pos w32 (at-put-process .before .before .before .free-round .result) (search needs)) (at-put-process .before .before .if2 .left)
 
 pub make-process-spec : {M : Type 1} → statement M
 make-process-spec =
     tie.close
     (tie.spec
-    add-index-below
-    index-below-requires
-    enum-told
-    enum-known-index
-    make-process-of-requires
+    (λ c. search needs)
+    (λ c κs. search needs)
+    (λ c. search needs)
+    (λ c. search needs)
     returns
-    same-length
-    returns-2)
+    (λ c κs. search needs)
+    (λ c. search needs)
+    (λ c κs. search needs)
+    (λ c. search needs)
+    returns-2
+    (λ c. search needs)
+    (λ c κs. search needs)
+    (λ c. search needs)
+    (λ c κs. search needs)
+    (λ c κs. search needs)
+    (λ c. search needs)
+    returns-3
+    (λ c. search needs)
+    returns-4)

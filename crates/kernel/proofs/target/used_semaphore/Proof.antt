@@ -1,22 +1,8 @@
 use borrow.Author.Needs.{needs}
 use Rattle.kernel.proofs.target.used_semaphore.Statement.{statement}
-use Rattle.kernel.proofs.Arguments.{no-semaphore, passed, unused-refused, used-chosen}
+use Rattle.scheduling.proofs.IndexLaws.{passed}
+use Rattle.kernel.proofs.TargetLaws.{no-semaphore, unused-refused, used-chosen}
 use Rattle.kernel.proofs.target.used_semaphore.Tie as tie
-
-cast-index-below : tie.Need-cast-index-below
-cast-index-below c = search needs
-
-index-below-requires : tie.Need-index-below-requires
-index-below-requires c κs = search needs
-
-enum-told : tie.Need-enum-told
-enum-told c = search needs
-
-enum-known-index : tie.Need-enum-known-index
-enum-known-index c = search needs
-
-is-used-requires : tie.Need-is-used-requires
-is-used-requires c κs = search needs
 
 returns : tie.Need-returns
 returns c = used-chosen (c .before .before .before .before .before .before .before .args .a) _ _ _ (passed _ _ _ _ (c .before .before .before .before .before .before .before .fits .a) (c .before .before .before .before .before .index-below .ensures) (c .before .before .before .index .given .1)) (c .before .is-used .ensures) (c .if1 .taken)
@@ -31,11 +17,11 @@ pub used-semaphore-spec : {M : Type 1} → statement M
 used-semaphore-spec =
     tie.close
     (tie.spec
-    cast-index-below
-    index-below-requires
-    enum-told
-    enum-known-index
-    is-used-requires
+    (λ c. search needs)
+    (λ c κs. search needs)
+    (λ c. search needs)
+    (λ c. search needs)
+    (λ c κs. search needs)
     returns
     returns-2
     returns-3)

@@ -5,9 +5,6 @@ use borrow.Author.Tests.{eq-eqb, ne-eqb}
 use Rattle.kernel.proofs.wait.barred.Statement.{statement}
 use Rattle.kernel.proofs.wait.barred.Tie as tie
 
-is-spent-requires : tie.Need-is-spent-requires
-is-spent-requires c κs = search needs
-
 returns : tie.Need-returns
 returns c = rw (eq-eqb _ 0 (c .before .if1 .taken)) (rw (toZ-ofZ w32 (c .before .before .args .c) (c .before .before .fits .c)) at (c .is-spent .ensures))
 
@@ -15,4 +12,4 @@ returns-2 : tie.Need-returns-2
 returns-2 c = rw (ne-eqb _ 0 (c .if1 .left))
 
 pub barred-spec : {M : Type 1} → statement M
-barred-spec = tie.close (tie.spec is-spent-requires returns returns-2)
+barred-spec = tie.close (tie.spec (λ c κs. search needs) returns returns-2)

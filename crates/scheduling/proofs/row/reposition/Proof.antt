@@ -1,0 +1,23 @@
+use borrow.Author.Needs.{needs}
+use Rattle.scheduling.proofs.row.reposition.Statement.{statement}
+use Rattle.scheduling.proofs.Spots.{moved-down, moved-up}
+use Rattle.scheduling.proofs.row.reposition.Tie as tie
+
+returns : tie.Need-returns
+returns c = moved-down _ _ _ _ _ _ (c .before .before .before .before .before .before .before .spot .ensures .1) (c .before .before .before .before .before .place .ensures) (c .before .before .before .before .if1 .taken) (c .before .before .sink .ensures)
+
+returns-2 : tie.Need-returns-2
+returns-2 c = moved-up _ _ _ _ _ _ (c .before .before .before .before .before .before .before .spot .ensures .1) (c .before .before .before .before .before .place .ensures) (c .before .before .before .before .if1 .left) (c .before .before .rise .ensures)
+
+pub reposition-spec : {M : Type 1} → statement M
+reposition-spec =
+    tie.close
+    (tie.spec
+    (λ c κs. search needs)
+    (λ c κs. search needs)
+    (λ c κs. search needs)
+    (λ c κs. search needs)
+    (λ c. search needs)
+    returns
+    (λ c. search needs)
+    returns-2)
