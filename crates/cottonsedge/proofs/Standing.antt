@@ -5,7 +5,7 @@ use Prim.Native.Nat.{_<_, _≤_, ℕ}
 use native.Mathlib.Omega.{arith}
 use mathlib.Core.Bool.{true}
 use mathlib.Core.List.{List}
-use mathlib.Core.Path.{_∙_, _≡_, refl, subst, sym}
+use mathlib.Core.Path.{_∙_, _≡_, ap, refl, subst, sym}
 use lib.ListN.{getD, length}
 use borrow.Author.Tests.{le-ltb}
 use Rattle.layout.specs.Bytes.{fromBytes, toBytes, wellFormed}
@@ -22,7 +22,8 @@ use Rattle.tables.specs.declared.Tables.{Tables}
 use Rattle.soundness.specs.Tallies.{sumOf}
 use Rattle.tables.specs.States.{isCurrent}
 use Rattle.tables.specs.Counts.{CountsFit}
-use Rattle.layout.proofs.Image.{formed-made, tables-back}
+use Rattle.kernel.specs.Steps.{Runs}
+use Rattle.layout.proofs.Image.{formed-made, stands-is, tables-back}
 use Rattle.lists.proofs.Bools.{and-in, below?, both}
 use Rattle.lists.proofs.Rows.{times-at}
 use Rattle.tables.proofs.Sentences.{current-below, waiter-below}
@@ -72,3 +73,6 @@ running-is {t} S = sym (current-sum t (S .laid .places) (of-row (t .order) (S .l
 
 pub running-small : (bs : List ℕ) → good bs ≡ true → (c : ℕ) → c ≡ sumOf (fromBytes bs) isCurrent → c < processLimit
 running-small bs g c e = let S = good-sound bs g in subst (λ (p : ℕ). p < processLimit) (sym (e ∙ running-is S)) (current-below S)
+
+pub sum-runs : (bs : List ℕ) (c : ℕ) → c ≡ sumOf (fromBytes bs) isCurrent → Runs c bs
+sum-runs bs c e t st S = e ∙ ap (λ (x : Tables). sumOf x isCurrent) (stands-is t bs st) ∙ running-is S

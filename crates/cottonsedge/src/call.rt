@@ -4,6 +4,7 @@ use crate::answer::pack;
 use kernel::enter;
 use rules::Answer;
 use soundness::check::is_sound;
+use soundness::running::current;
 ghost use Rattle.cottonsedge.specs.Entries.{Called};
 
 // The answer, with the tables changed where they stand. Tables that aren't sound are answered 15 and not a byte of them changes, nor at any other refusal.
@@ -14,7 +15,8 @@ pub extern "C" fn cottonsedge_call(tables: &mut [u8], call: u8, a: i32, b: i32) 
     if !is_sound(tables) {
         return pack(Answer::Refused(15), UNKNOWN as u16);
     }
-    let told = enter::call(tables, call, a, b);
+    let c = current(tables) as u8;
+    let told = enter::call(tables, c, call, a, b);
     let answer = told.answer;
     let running = told.running as u16;
     pack(answer, running)

@@ -8,6 +8,7 @@ use rules::Answer;
 use rules::Outcome;
 use rules::Reply;
 use soundness::check::is_sound;
+use soundness::running::current;
 use tables::Tables;
 ghost use mathlib.Core.Path.{_≡_};
 ghost use Rattle.rules.specs.Enter.{enter};
@@ -27,7 +28,8 @@ pub fn call(tables: Tables, number: u8, a: i32, b: i32) -> Reply
             running: UNKNOWN,
         };
     }
-    let told = enter::call(&mut bytes, number, a, b);
+    let c = current(&bytes) as u8;
+    let told = enter::call(&mut bytes, c, number, a, b);
     let answer = told.answer;
     let left = decode(&bytes);
     let outcome = Outcome {

@@ -1,23 +1,20 @@
 -- What the code of every call is shown with. Assumes nothing.
 use Prim.Native.Nat.{ℕ}
-use native.Mathlib.Omega.{arith}
-use mathlib.Core.List.{List, [], _∷_}
+use mathlib.Core.List.{List, _∷_}
 use mathlib.Core.Path.{_∙_, _≡_, ap, refl, subst, sym}
 use lib.IntN.{pos, ℤ}
-use lib.ListN.{drop, length}
+use lib.ListN.{drop}
 use borrow.Author.Tests.{eq-eqb, lt-leb}
 use Rattle.layout.specs.Stands.{Does, Stands, Tells}
-use Rattle.lists.specs.Lists.{first, firstOr}
 use Rattle.rules.specs.Answers.{Check, refused, unless}
 use Rattle.rules.specs.Calls.{Call, Count, Yield, checks, deed, finish, noProcess, noSemaphore, notUsed, nullProcess, step}
 use Rattle.rules.specs.declared.Answer.the-variants.{Done as AnswerDone, Refused as AnswerRefused}
 use Rattle.rules.specs.declared.Outcome.{Outcome}
 use Rattle.scheduling.specs.Index.{indexBelow}
-use Rattle.scheduling.specs.Row.{found}
 use Rattle.scheduling.specs.Running.{Only, Reschedules}
 use Rattle.scheduling.specs.declared.index.Index.the-variants.{At, Outside}
 use Rattle.tables.specs.Limits.{processLimit, semaphoreLimit}
-use Rattle.tables.specs.Readers.{countOf, currents}
+use Rattle.tables.specs.Readers.{countOf}
 use Rattle.tables.specs.Sound.{Sound}
 use Rattle.tables.specs.declared.Tables.{Tables}
 use Rattle.kernel.specs.Steps.{Ends, Leads, Meets, Runs, told}
@@ -26,7 +23,6 @@ use Rattle.kernel.specs.declared.step.Step.{Step}
 use Rattle.kernel.specs.declared.step.Step.the-variants.{Done, Refused, Switches}
 use Rattle.kernel.specs.declared.step.Told.{Told}
 use Rattle.kernel.specs.declared.target.Target.the-variants.{Refusal, Used}
-use Rattle.scheduling.proofs.Found.{line-current, told-nobody, told-somebody}
 use Rattle.scheduling.proofs.IndexLaws.{no-number, number}
 use Rattle.scheduling.proofs.ScheduleLaws.{only-runs}
 use Rattle.kernel.proofs.RunningLaws.{still}
@@ -53,18 +49,6 @@ leads-end rule c s x y z r keeps runs lead end t st S =
     let w = lead t st S in
     let e = end (w .0) (w .2) (subst (λ (p : ℕ). Only p (w .0)) (sym (runs t st S)) (w .3)) (subst (λ (o : Outcome). Sound (o .tables)) (w .1) (keeps t S)) in
     (e .0 ∙ sym (ap told (w .1)), subst (λ (o : Outcome). Stands (o .tables) z) (sym (w .1)) (e .1))
-
--- who is found to be current
-pub found-runs : (c : ℕ) (bs : List ℕ) → Tells (found 1) bs c → Runs c bs
-unfolding firstOr
-found-runs c bs told t st S = ap first (sym (sym (line-current t) ∙ told-somebody 1 c bs told t st somebody .2))
-  where
-    somebody : c ≡ processLimit → ⊥
-    somebody e =
-        let none : currents t ≡ [] = sym (line-current t) ∙ told-nobody 1 c bs told t st e in
-        let one : length (currents t) ≡ 1 = S .running .one in
-        let zero : length (currents t) ≡ 0 = ap length none in
-        omega arith
 
 -- Branches
 

@@ -13,9 +13,7 @@ use crate::step::finish;
 use crate::suspend::suspend;
 use crate::wait::wait;
 use crate::yields::yields;
-use layout::state::CURRENT;
 use scheduling::counts::is_zero;
-use scheduling::row::find;
 ghost use mathlib.Core.Path.{_≡_};
 ghost use Prim.Native.Nat.{_<_, _≤_};
 ghost use lib.ListN.{length};
@@ -104,11 +102,11 @@ fn act(bytes: &mut [u8], c: u8, number: u8, a: i32, b: i32) -> Step
     call_high(bytes, number, a, b)
 }
 
-pub fn call(bytes: &mut [u8], number: u8, a: i32, b: i32) -> Told
+// `c` is the current process.
+pub fn call(bytes: &mut [u8], c: u8, number: u8, a: i32, b: i32) -> Told
     requires { ⌜ length (now bytes) ≡ size ⌝ }
-    ensures { λ r. ⌜ Meets (λ t. numbered t number a b) (now (bytes .entry)) (now (bytes .exit)) r ⌝ }
+    ensures { λ r. ⌜ (Runs c (now (bytes .entry)) → Meets (λ t. numbered t number a b) (now (bytes .entry)) (now (bytes .exit)) r) ⌝ }
 {
-    let c = find(bytes, CURRENT);
     let step = act(bytes, c, number, a, b);
     finish(bytes, c, step)
 }

@@ -16,12 +16,9 @@ use Rattle.scheduling.specs.Index.{indexBelow}
 use Rattle.scheduling.specs.declared.index.Index.{Index}
 use Rattle.scheduling.specs.declared.index.Index.the-variants.{At, Outside}
 
--- a test of two signed numbers speaks of their bits; it is a test of the numbers
-pub tested : (z y : ℤ) (b : Bool) → SFits w32 z → SFits w32 y → ltZ (toZ w32 (ofZ w32 z)) (toZ w32 (ofZ w32 y)) ≡ b → ltZ z y ≡ b
-tested z y b f g e = ap (λ (x : ℤ). ltZ x y) (sym (toZ-ofZ w32 z f)) ∙ ap (ltZ (toZ w32 (ofZ w32 z))) (sym (toZ-ofZ w32 y g)) ∙ e
-
-pub byte-fits : (n : ℕ) → n < 256 → SFits w32 (pos n)
-byte-fits n h = record { sfits = omega arith }
+-- a test of an argument against a byte speaks of the bits of both; it is a test of the numbers
+pub tested : (z : ℤ) (m : ℕ) (b : Bool) → SFits w32 z → m < 256 → ltZ (toZ w32 (ofZ w32 z)) (toZ w32 (ofZ w32 (pos m))) ≡ b → ltZ z (pos m) ≡ b
+tested z m b f h e = ap (λ (x : ℤ). ltZ x (pos m)) (sym (toZ-ofZ w32 z f)) ∙ ap (ltZ (toZ w32 (ofZ w32 z))) (sym (toZ-ofZ w32 (pos m) (record { sfits = omega arith }))) ∙ e
 
 -- an argument that passed both tests
 

@@ -45,7 +45,6 @@ fn ready_if(bytes: &mut [u8], q: u8)
 {
     if q < NOBODY {
         make_ready(bytes, q);
-        return;
     }
 }
 

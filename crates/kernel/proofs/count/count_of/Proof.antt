@@ -1,3 +1,4 @@
+-- The first two checks, then the count as it is read. Assumes nothing.
 use mathlib.Core.Path.{refl}
 use mir.Syntax.{w32}
 use mir.ValLaws.{toZ-ofZ}
@@ -13,7 +14,9 @@ count-requires : tie.Need-count-requires
 count-requires c κs = let below = (chosen _ _ _ _ (c .before .before .before .before .before .fits .a) (c .before .target2 .given .1) (c .before .before .before .used-semaphore .ensures)) .1 in search needs
 
 returns : tie.Need-returns
-returns c = semaphore-refused (c .before .before .before .before .before .args .a) _ _ (chosen _ _ _ _ (c .before .before .before .before .before .fits .a) (c .before .target .given .1) (c .before .before .before .used-semaphore .ensures)) (Count (c .before .before .before .before .before .args .a)) (λ t. refl)
+returns c =
+    let start = c .before .before .before .before .before in
+    semaphore-refused (start .args .a) _ _ (chosen _ _ _ _ (start .fits .a) (c .before .target .given .1) (c .before .before .before .used-semaphore .ensures)) (Count (start .args .a)) (λ t. refl)
 
 returns-2 : tie.Need-returns-2
 returns-2 c =

@@ -1,3 +1,4 @@
+-- The first two checks, then the release of all waiters. Assumes nothing.
 use mathlib.Core.Path.{refl}
 use borrow.Author.Needs.{needs}
 use Rattle.rules.specs.Calls.{Delete}
@@ -13,7 +14,9 @@ release-requires c κs =
     (search needs, (chosen _ _ _ _ (start .fits .a) (c .before .before .target2 .given .1) (c .before .before .before .before .used-semaphore .ensures)) .1)
 
 returns : tie.Need-returns
-returns c = semaphore-refused (c .before .before .before .before .before .before .args .a) _ _ (chosen _ _ _ _ (c .before .before .before .before .before .before .fits .a) (c .before .target .given .1) (c .before .before .before .used-semaphore .ensures)) (Delete (c .before .before .before .before .before .before .args .a)) (λ t. refl)
+returns c =
+    let start = c .before .before .before .before .before .before in
+    semaphore-refused (start .args .a) _ _ (chosen _ _ _ _ (start .fits .a) (c .before .target .given .1) (c .before .before .before .used-semaphore .ensures)) (Delete (start .args .a)) (λ t. refl)
 
 returns-2 : tie.Need-returns-2
 returns-2 c =

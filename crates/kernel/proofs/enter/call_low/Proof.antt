@@ -12,7 +12,9 @@ returns c =
     λ low runs. unary-goes _ (start .args .a) (start .args .b) (start .fits .a) (start .fits .b) _ 1 Wait refl (c .before .before .before .before .before .before .match .keys1) _ (c .before .before .before .before .before .is-zero .ensures) (c .before .before .before .before .if1 .taken) _ _ (c .before .before .wait .ensures runs)
 
 returns-2 : tie.Need-returns-2
-returns-2 c = λ low runs. unary-14 _ (c .before .before .before .before .args .a) (c .before .before .before .before .args .b) (c .before .before .before .before .fits .a) (c .before .before .before .before .fits .b) _ 1 Wait refl (c .before .before .match .keys1) _ (c .before .is-zero .ensures) (c .if1 .left)
+returns-2 c =
+    let start = c .before .before .before .before in
+    λ low runs. unary-14 _ (start .args .a) (start .args .b) (start .fits .a) (start .fits .b) _ 1 Wait refl (c .before .before .match .keys1) _ (c .before .is-zero .ensures) (c .if1 .left)
 
 returns-3 : tie.Need-returns-3
 returns-3 c =
@@ -20,7 +22,9 @@ returns-3 c =
     λ low runs. unary-goes _ (start .args .a) (start .args .b) (start .fits .a) (start .fits .b) _ 2 Signal refl (c .before .before .before .before .before .before .match .keys2) _ (c .before .before .before .before .before .is-zero2 .ensures) (c .before .before .before .before .if2 .taken) _ _ (c .before .before .signal .ensures)
 
 returns-4 : tie.Need-returns-4
-returns-4 c = λ low runs. unary-14 _ (c .before .before .before .before .args .a) (c .before .before .before .before .args .b) (c .before .before .before .before .fits .a) (c .before .before .before .before .fits .b) _ 2 Signal refl (c .before .before .match .keys2) _ (c .before .is-zero2 .ensures) (c .if2 .left)
+returns-4 c =
+    let start = c .before .before .before .before in
+    λ low runs. unary-14 _ (start .args .a) (start .args .b) (start .fits .a) (start .fits .b) _ 2 Signal refl (c .before .before .match .keys2) _ (c .before .is-zero2 .ensures) (c .if2 .left)
 
 returns-5 : tie.Need-returns-5
 returns-5 c =
@@ -28,7 +32,9 @@ returns-5 c =
     λ low runs. unary-goes _ (start .args .a) (start .args .b) (start .fits .a) (start .fits .b) _ 3 MakeSemaphore refl (c .before .before .before .before .before .before .match .keys3) _ (c .before .before .before .before .before .is-zero3 .ensures) (c .before .before .before .before .if3 .taken) _ _ (c .before .before .make-semaphore .ensures)
 
 returns-6 : tie.Need-returns-6
-returns-6 c = λ low runs. unary-14 _ (c .before .before .before .before .args .a) (c .before .before .before .before .args .b) (c .before .before .before .before .fits .a) (c .before .before .before .before .fits .b) _ 3 MakeSemaphore refl (c .before .before .match .keys3) _ (c .before .is-zero3 .ensures) (c .if3 .left)
+returns-6 c =
+    let start = c .before .before .before .before in
+    λ low runs. unary-14 _ (start .args .a) (start .args .b) (start .fits .a) (start .fits .b) _ 3 MakeSemaphore refl (c .before .before .match .keys3) _ (c .before .is-zero3 .ensures) (c .if3 .left)
 
 returns-7 : tie.Need-returns-7
 returns-7 c =
@@ -36,10 +42,14 @@ returns-7 c =
     λ low runs. unary-goes _ (start .args .a) (start .args .b) (start .fits .a) (start .fits .b) _ 4 Delete refl (c .before .before .before .before .before .before .match .keys4) _ (c .before .before .before .before .before .is-zero4 .ensures) (c .before .before .before .before .if4 .taken) _ _ (c .before .before .delete .ensures)
 
 returns-8 : tie.Need-returns-8
-returns-8 c = λ low runs. unary-14 _ (c .before .before .before .before .args .a) (c .before .before .before .before .args .b) (c .before .before .before .before .fits .a) (c .before .before .before .before .fits .b) _ 4 Delete refl (c .before .before .match .keys4) _ (c .before .is-zero4 .ensures) (c .if4 .left)
+returns-8 c =
+    let start = c .before .before .before .before in
+    λ low runs. unary-14 _ (start .args .a) (start .args .b) (start .fits .a) (start .fits .b) _ 4 Delete refl (c .before .before .match .keys4) _ (c .before .is-zero4 .ensures) (c .if4 .left)
 
 returns-9 : tie.Need-returns-9
-returns-9 c = λ low runs. reset-goes _ (c .before .before .before .before .before .before .args .a) (c .before .before .before .before .before .before .args .b) (c .before .before .before .before .before .before .fits .a) (c .before .before .before .before .before .before .fits .b) _ (c .before .before .before .before .match .keys5) _ _ (c .before .before .reset .ensures)
+returns-9 c =
+    let start = c .before .before .before .before .before .before in
+    λ low runs. reset-goes _ (start .args .a) (start .args .b) (start .fits .a) (start .fits .b) _ (c .before .before .before .before .match .keys5) _ _ (c .before .before .reset .ensures)
 
 returns-10 : tie.Need-returns-10
 returns-10 c =

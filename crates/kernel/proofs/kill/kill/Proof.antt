@@ -11,11 +11,14 @@ use Rattle.kernel.proofs.kill.kill.Tie as tie
 
 returns : tie.Need-returns
 returns c =
-    let at = passed _ _ _ _ (c .before .before .before .before .before .before .fits .a) (c .before .before .before .before .index-below .ensures) (c .before .before .index .given .1) in
-    process-null (Kill (c .before .before .before .before .before .before .args .a)) (c .before .before .before .before .before .before .args .a) _ _ (λ t. refl) at (c .if1 .taken)
+    let start = c .before .before .before .before .before .before in
+    let at = passed _ _ _ _ (start .fits .a) (c .before .before .before .before .index-below .ensures) (c .before .before .index .given .1) in
+    process-null (Kill (start .args .a)) (start .args .a) _ _ (λ t. refl) at (c .if1 .taken)
 
 returns-2 : tie.Need-returns-2
-returns-2 c = process-outside (Kill (c .before .before .before .before .args .a)) (c .before .before .before .before .args .a) _ (λ t. refl) (passed _ _ _ _ (c .before .before .before .before .fits .a) (c .before .before .index-below .ensures) (c .enum-told .given .1))
+returns-2 c =
+    let start = c .before .before .before .before in
+    process-outside (Kill (start .args .a)) (start .args .a) _ (λ t. refl) (passed _ _ _ _ (start .fits .a) (c .before .before .index-below .ensures) (c .enum-told .given .1))
 
 returns-3 : tie.Need-returns-3
 returns-3 c =

@@ -27,7 +27,8 @@ returns-4 c =
     let at-if1 = at-put-process .before .before .before .before .before .before .before in
     let at = passed _ _ _ _ (at-if1 .before .before .before .before .before .before .fits .a) (at-if1 .before .before .before .before .index-below .ensures) (at-if1 .before .before .index .given .1) in
     let move = rw (c .before .before .before .one-past .ensures) at (c .before .before .put-next-process .ensures) in
-    make-process-done (at-if1 .before .before .before .before .before .before .args .a) _ at (at-if1 .if1 .left) _ _ _ (at-put-process .before .before .before .before .before .next-process .ensures) (at-put-process .before .before .before .free-round .ensures .1) _ _ (at-put-process .put-process .ensures) move _ (toZ-pos w32 (at-put-process .before .before .before .free-round .result) (search needs)) (at-put-process .before .before .if2 .left)
+    let value = toZ-pos w32 (at-put-process .before .before .before .free-round .result) (search needs) in
+    make-process-done (at-if1 .before .before .before .before .before .before .args .a) _ at (at-if1 .if1 .left) _ _ _ (at-put-process .before .before .before .before .before .next-process .ensures) (at-put-process .before .before .before .free-round .ensures .1) _ _ (at-put-process .put-process .ensures) move _ value (at-put-process .before .before .if2 .left)
 
 pub make-process-spec : {M : Type 1} → statement M
 make-process-spec =

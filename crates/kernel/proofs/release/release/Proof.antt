@@ -15,8 +15,9 @@ returns c =
 returns-2 : tie.Need-returns-2
 returns-2 c =
     let at-picked = c .before .before .before .before .before .before .before .before in
-    let put = rw (toZ-ofZ w32 (at-picked .before .before .before .before .before .before .args .count) (at-picked .before .before .before .before .before .before .fits .count)) at (c .before .before .before .before .before .before .put-semaphore2 .ensures) in
-    release-some _ (record { used = at-picked .before .before .before .before .before .before .args .used; count = at-picked .before .before .before .before .before .before .args .count }) (search needs) _ _ (at-picked .before .before .before .find .ensures) _ put _ _ (at-picked .before .before .if1 .left) (at-picked .picked .ensures) (c .before .before .make-all-ready .ensures)
+    let start = at-picked .before .before .before .before .before .before in
+    let put = rw (toZ-ofZ w32 (start .args .count) (start .fits .count)) at (c .before .before .before .before .before .before .put-semaphore2 .ensures) in
+    release-some _ (record { used = start .args .used; count = start .args .count }) (search needs) _ _ (at-picked .before .before .before .find .ensures) _ put _ _ (at-picked .before .before .if1 .left) (at-picked .picked .ensures) (c .before .before .make-all-ready .ensures)
 
 pub release-spec : {M : Type 1} → statement M
 release-spec =

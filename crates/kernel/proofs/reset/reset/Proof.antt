@@ -1,17 +1,17 @@
 -- The count is checked first, then the semaphore. Assumes nothing.
-use mathlib.Core.Bool.{false}
-use mathlib.Core.Path.{_∙_, _≡_, sym}
+use mathlib.Core.Path.{_∙_, sym}
 use mir.Syntax.{w32}
 use mir.ValLaws.{toZ-ofZ}
 use borrow.Author.Needs.{needs}
-use Rattle.rules.specs.Calls.{below0}
 use Rattle.kernel.proofs.reset.reset.Statement.{statement}
 use Rattle.kernel.proofs.ReleaseLaws.{reset-3, reset-refused, reset-releases}
 use Rattle.kernel.proofs.TargetLaws.{chosen}
 use Rattle.kernel.proofs.reset.reset.Tie as tie
 
 returns : tie.Need-returns
-returns c = reset-3 (c .before .before .before .args .a) (c .before .before .before .args .b) _ (rw (toZ-ofZ w32 (c .before .before .before .args .b) (c .before .before .before .fits .b)) at (sym (c .before .below-zero .ensures) ∙ c .if1 .taken))
+returns c =
+    let start = c .before .before .before in
+    reset-3 (start .args .a) (start .args .b) _ (rw (toZ-ofZ w32 (start .args .b) (start .fits .b)) at (sym (c .before .below-zero .ensures) ∙ c .if1 .taken))
 
 release-requires : tie.Need-release-requires
 release-requires c κs =
@@ -21,13 +21,17 @@ release-requires c κs =
 returns-2 : tie.Need-returns-2
 returns-2 c =
     let start = c .before .before .before .before .before .before .before .before in
-    reset-refused (start .args .a) _ _ (chosen _ _ _ _ (start .fits .a) (c .before .target .given .1) (c .before .before .before .used-semaphore .ensures)) (start .args .b) (rw (toZ-ofZ w32 (start .args .b) (start .fits .b)) at (sym (c .before .before .before .before .before .before .below-zero .ensures) ∙ c .before .before .before .before .before .if1 .left))
+    let w = chosen _ _ _ _ (start .fits .a) (c .before .target .given .1) (c .before .before .before .used-semaphore .ensures) in
+    let h = rw (toZ-ofZ w32 (start .args .b) (start .fits .b)) at (sym (c .before .before .before .before .before .before .below-zero .ensures) ∙ c .before .before .before .before .before .if1 .left) in
+    reset-refused (start .args .a) _ _ w (start .args .b) h
 
 returns-3 : tie.Need-returns-3
 returns-3 c =
     let at-used-semaphore = c .before .before .before .before .before .before .before in
-    let w = chosen _ _ _ _ (at-used-semaphore .before .before .before .before .before .fits .a) (c .before .before .before .before .before .target2 .given .1) (at-used-semaphore .used-semaphore .ensures) in
-    reset-releases _ _ _ _ _ w (at-used-semaphore .before .before .before .before .before .args .b) (rw (toZ-ofZ w32 (at-used-semaphore .before .before .before .before .before .args .b) (at-used-semaphore .before .before .before .before .before .fits .b)) at (sym (at-used-semaphore .before .before .before .below-zero .ensures) ∙ at-used-semaphore .before .before .if1 .left)) (rw (toZ-ofZ w32 (at-used-semaphore .before .before .before .before .before .args .b) (at-used-semaphore .before .before .before .before .before .fits .b)) at (c .before .before .release .ensures))
+    let start = at-used-semaphore .before .before .before .before .before in
+    let w = chosen _ _ _ _ (start .fits .a) (c .before .before .before .before .before .target2 .given .1) (at-used-semaphore .used-semaphore .ensures) in
+    let h = rw (toZ-ofZ w32 (start .args .b) (start .fits .b)) at (sym (at-used-semaphore .before .before .before .below-zero .ensures) ∙ at-used-semaphore .before .before .if1 .left) in
+    reset-releases _ _ _ _ _ w (start .args .b) h (rw (toZ-ofZ w32 (start .args .b) (start .fits .b)) at (c .before .before .release .ensures))
 
 pub reset-spec : {M : Type 1} → statement M
 reset-spec =

@@ -12,7 +12,9 @@ use Rattle.scheduling.proofs.IndexLaws.{passed}
 use Rattle.kernel.proofs.resume.resume.Tie as tie
 
 returns : tie.Need-returns
-returns c = process-outside (Resume (c .before .before .before .before .args .a)) (c .before .before .before .before .args .a) _ (λ t. refl) (passed _ _ _ _ (c .before .before .before .before .fits .a) (c .before .before .index-below .ensures) (c .enum-told .given .1))
+returns c =
+    let start = c .before .before .before .before in
+    process-outside (Resume (start .args .a)) (start .args .a) _ (λ t. refl) (passed _ _ _ _ (start .fits .a) (c .before .before .index-below .ensures) (c .enum-told .given .1))
 
 returns-2 : tie.Need-returns-2
 returns-2 c =

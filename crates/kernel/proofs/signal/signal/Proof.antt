@@ -47,7 +47,9 @@ returns-2 c =
     signal-free _ _ _ w _ n free _ more _ (at-below-zero .before .before .before .put-count .ensures) _ _ (sym (at-below-zero .below-zero .ensures) ∙ c .before .before .before .before .before .before .if2 .taken) (c .before .before .before .before .find .ensures) (c .before .before .make-ready .ensures)
 
 returns-3 : tie.Need-returns-3
-returns-3 c = semaphore-refused (c .before .before .before .before .before .before .args .a) _ _ (chosen _ _ _ _ (c .before .before .before .before .before .before .fits .a) (c .before .target .given .1) (c .before .before .before .used-semaphore .ensures)) (Signal (c .before .before .before .before .before .before .args .a)) (λ t. refl)
+returns-3 c =
+    let start = c .before .before .before .before .before .before in
+    semaphore-refused (start .args .a) _ _ (chosen _ _ _ _ (start .fits .a) (c .before .target .given .1) (c .before .before .before .used-semaphore .ensures)) (Signal (start .args .a)) (λ t. refl)
 
 returns-4 : tie.Need-returns-4
 returns-4 c =

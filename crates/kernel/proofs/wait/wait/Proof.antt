@@ -44,7 +44,9 @@ returns-2 c =
     λ runs. wait-block _ _ _ w _ n _ runs free _ less _ (at-put-count .put-count .ensures) _ (sym (c .before .before .before .before .before .below-zero .ensures) ∙ c .before .before .before .before .if2 .taken) (c .before .before .make-wait .ensures)
 
 returns-3 : tie.Need-returns-3
-returns-3 c = λ runs. semaphore-refused (c .before .before .before .before .before .before .args .a) _ _ (chosen _ _ _ _ (c .before .before .before .before .before .before .fits .a) (c .before .target .given .1) (c .before .before .before .used-semaphore .ensures)) (Wait (c .before .before .before .before .before .before .args .a)) (λ t. refl)
+returns-3 c =
+    let start = c .before .before .before .before .before .before in
+    λ runs. semaphore-refused (start .args .a) _ _ (chosen _ _ _ _ (start .fits .a) (c .before .target .given .1) (c .before .before .before .used-semaphore .ensures)) (Wait (start .args .a)) (λ t. refl)
 
 returns-4 : tie.Need-returns-4
 returns-4 c =

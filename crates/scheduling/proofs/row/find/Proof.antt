@@ -1,3 +1,4 @@
+-- From each place on the search finds what it finds from the start. Assumes nothing.
 use Prim.Native.Nat.{_-_, _≤_}
 use borrow.Author.Needs.{needs}
 use Rattle.tables.specs.Limits.{processLimit}

@@ -4,10 +4,14 @@ use Rattle.scheduling.proofs.Spots.{moved-down, moved-up}
 use Rattle.scheduling.proofs.row.reposition.Tie as tie
 
 returns : tie.Need-returns
-returns c = moved-down _ _ _ _ _ _ (c .before .before .before .before .before .before .before .spot .ensures .1) (c .before .before .before .before .before .place .ensures) (c .before .before .before .before .if1 .taken) (c .before .before .sink .ensures)
+returns c =
+    let at-spot = c .before .before .before .before .before .before .before in
+    moved-down _ _ _ _ _ _ (at-spot .spot .ensures .1) (c .before .before .before .before .before .place .ensures) (c .before .before .before .before .if1 .taken) (c .before .before .sink .ensures)
 
 returns-2 : tie.Need-returns-2
-returns-2 c = moved-up _ _ _ _ _ _ (c .before .before .before .before .before .before .before .spot .ensures .1) (c .before .before .before .before .before .place .ensures) (c .before .before .before .before .if1 .left) (c .before .before .rise .ensures)
+returns-2 c =
+    let at-spot = c .before .before .before .before .before .before .before in
+    moved-up _ _ _ _ _ _ (at-spot .spot .ensures .1) (c .before .before .before .before .before .place .ensures) (c .before .before .before .before .if1 .left) (c .before .before .rise .ensures)
 
 pub reposition-spec : {M : Type 1} → statement M
 reposition-spec =

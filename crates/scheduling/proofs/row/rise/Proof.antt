@@ -1,3 +1,4 @@
+-- What is done, joined with the row that is left, is the row with p put in. Assumes nothing.
 use Prim.Native.Nat.{_-_, _<_}
 use mathlib.Core.Path.{_≡_}
 use lib.ListN.{length}
@@ -18,10 +19,14 @@ loop-holds : tie.Need-loop-holds Inv-loop μ-loop
 loop-holds c = (search needs, search needs, rise-start _ _ _)
 
 returns : tie.Need-returns Inv-loop μ-loop
-returns c = rise-stop _ _ _ _ _ _ (c .before .before .before .before .before .before .before .before .loop .inv .2) _ (c .before .before .before .put-place .ensures) (search needs) _ (c .before .before .before .before .before .place .ensures) (c .if1 .taken)
+returns c =
+    let at-loop = c .before .before .before .before .before .before .before .before in
+    rise-stop _ _ _ _ _ _ (at-loop .loop .inv .2) _ (c .before .before .before .put-place .ensures) (search needs) _ (c .before .before .before .before .before .place .ensures) (c .if1 .taken)
 
 loop-again : tie.Need-loop-again Inv-loop μ-loop
-loop-again c = (search needs, search needs, rise-on _ _ _ _ _ _ (c .before .before .before .before .before .before .before .before .loop .inv .2) _ (c .before .before .before .put-place .ensures) (search needs) _ (c .before .before .before .before .before .place .ensures) (c .if1 .left))
+loop-again c =
+    let at-loop = c .before .before .before .before .before .before .before .before in
+    (search needs, search needs, rise-on _ _ _ _ _ _ (at-loop .loop .inv .2) _ (c .before .before .before .put-place .ensures) (search needs) _ (c .before .before .before .before .before .place .ensures) (c .if1 .left))
 
 returns-2 : tie.Need-returns-2 Inv-loop μ-loop
 returns-2 c = rise-end _ _ _ _ _ _ (c .before .before .before .before .before .loop .inv .2) _ (search needs) (search needs) (c .before .before .put-place2 .ensures)

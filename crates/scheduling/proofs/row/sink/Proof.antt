@@ -1,3 +1,4 @@
+-- What is done, joined with the row that is left, is the row with p moved on. Assumes nothing.
 use Prim.Native.Nat.{_-_, _<_}
 use mathlib.Core.Path.{_≡_}
 use lib.ListN.{length}
@@ -18,10 +19,14 @@ loop-holds : tie.Need-loop-holds Inv-loop μ-loop
 loop-holds c = (search needs, search needs, sink-start _ _ _ _)
 
 returns : tie.Need-returns Inv-loop μ-loop
-returns c = sink-stop _ _ _ _ _ _ (c .before .before .before .before .before .before .before .before .before .before .loop .inv .2) _ (search needs) _ _ (c .before .before .before .before .before .before .before .place .ensures) (c .before .before .before .before .before .passes .ensures) (c .before .before .before .before .if1 .taken) (c .before .before .put-place .ensures)
+returns c =
+    let at-place = c .before .before .before .before .before .before .before in
+    sink-stop _ _ _ _ _ _ (at-place .before .before .before .loop .inv .2) _ (search needs) _ _ (at-place .place .ensures) (c .before .before .before .before .before .passes .ensures) (c .before .before .before .before .if1 .taken) (c .before .before .put-place .ensures)
 
 loop-again : tie.Need-loop-again Inv-loop μ-loop
-loop-again c = (search needs, search needs, sink-on _ _ _ _ _ _ (c .before .before .before .before .before .before .before .before .before .before .loop .inv .2) _ (search needs) _ _ (c .before .before .before .before .before .before .before .place .ensures) (c .before .before .before .before .before .passes .ensures) (c .before .before .before .before .if1 .left) (c .before .before .put-place2 .ensures))
+loop-again c =
+    let at-place = c .before .before .before .before .before .before .before in
+    (search needs, search needs, sink-on _ _ _ _ _ _ (at-place .before .before .before .loop .inv .2) _ (search needs) _ _ (at-place .place .ensures) (c .before .before .before .before .before .passes .ensures) (c .before .before .before .before .if1 .left) (c .before .before .put-place2 .ensures))
 
 returns-2 : tie.Need-returns-2 Inv-loop μ-loop
 returns-2 c = sink-end _ _ _ _ _ _ (c .before .before .before .before .before .loop .inv .2) _ (search needs) (search needs) (c .before .before .put-place3 .ensures)

@@ -1,3 +1,4 @@
+-- The move of p begins at no place that was passed. Assumes nothing.
 use Prim.Native.Nat.{_-_, _<_}
 use borrow.Author.Needs.{needs}
 use Rattle.tables.specs.Limits.{processLimit}

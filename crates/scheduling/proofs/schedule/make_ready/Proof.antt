@@ -4,7 +4,9 @@ use Rattle.scheduling.proofs.ScheduleLaws.{ready-turns}
 use Rattle.scheduling.proofs.schedule.make_ready.Tie as tie
 
 returns : tie.Need-returns
-returns c = ready-turns _ _ _ _ _ (c .before .before .before .before .before .before .before .before .process .ensures) (c .before .before .before .before .before .before .reposition .ensures) (c .before .before .put-state .ensures)
+returns c =
+    let at-process = c .before .before .before .before .before .before .before .before in
+    ready-turns _ _ _ _ _ (at-process .process .ensures) (c .before .before .before .before .before .before .reposition .ensures) (c .before .before .put-state .ensures)
 
 pub make-ready-spec : {M : Type 1} → statement M
 make-ready-spec =

@@ -1,3 +1,4 @@
+-- From each number on the search finds what it finds from the first. Assumes nothing.
 use Prim.Native.Nat.{_-_}
 use borrow.Author.Needs.{needs}
 use Rattle.scheduling.proofs.search.free_from.Statement.{statement}

@@ -1,3 +1,4 @@
+-- To make ready those that are left is to make ready all. Assumes nothing.
 use Prim.Native.Nat.{_-_, _≤_}
 use mathlib.Core.Path.{_≡_}
 use lib.ListN.{length}

@@ -1,3 +1,4 @@
+-- What is picked, joined with the line that is left, is the line. Assumes nothing.
 use Prim.Native.Nat.{_-_, _≤_}
 use mathlib.Core.Path.{_≡_}
 use lib.ListN.{length}
