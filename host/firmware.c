@@ -8,18 +8,13 @@
 #include <stdlib.h>
 #include <string.h>
 
-#include "../include/cottonsedge.h"
-
-/* docs/LAYOUT.md: a state byte for each process, and the row of all processes. */
-enum {
-    STATES = 0,
-    ROW = 664,
-    SUSPENDED = 3,
-    WAITING = 4
-};
+#include "layout.h"
 
 static uint8_t tables[COTTONSEDGE_LENGTH];
 static uint8_t running;
+
+/* The same bytes field by field, to be read and not written. */
+static const Tables *const seen = (const Tables *)tables;
 
 static const char *const state_names[] = {"free", "current", "ready", "suspended"};
 
@@ -35,8 +30,8 @@ static void print_waiters(unsigned semaphore, const char *name)
     int found = 0;
 
     for (int i = 0; i < COTTONSEDGE_PROCESSES; i++) {
-        unsigned process = tables[ROW + i];
-        if (tables[STATES + process] != WAITING + semaphore)
+        unsigned process = seen->order[i];
+        if (seen->state[process] != WAITING + semaphore)
             continue;
         printf("%s %u", found ? "," : "; waiting for", process);
         found = 1;
@@ -76,7 +71,7 @@ static int32_t step(const char *what, uint8_t number, int32_t a, int32_t b)
 
 static void print_state(int32_t process)
 {
-    uint8_t state = tables[STATES + process];
+    uint8_t state = seen->state[process];
 
     printf("process %ld is %s; the lock counts %ld\n", (long)process,
            state < WAITING ? state_names[state] : "waiting",
@@ -130,7 +125,7 @@ static int damage_is_refused(void)
     uint8_t damaged[COTTONSEDGE_LENGTH];
 
     memcpy(damaged, tables, sizeof damaged);
-    damaged[STATES] = SUSPENDED;
+    ((Tables *)damaged)->state[0] = SUSPENDED;
     uint64_t answer = cottonsedge_call(damaged, sizeof damaged, COTTONSEDGE_YIELD, 0, 0);
     printf("a copy that says process 0 is suspended: refused with %d, runs %d\n",
            cottonsedge_refusal(answer), cottonsedge_process(answer));
@@ -147,7 +142,7 @@ int main(void)
     step("server: wait for a request", COTTONSEDGE_WAIT, REQUESTS, 0);
     step("first handler: give the lock back", COTTONSEDGE_SIGNAL, LOCK, 0);
     print_state(reborn);
-    if (tables[STATES + reborn] != SUSPENDED)
+    if (seen->state[reborn] != SUSPENDED)
         return EXIT_FAILURE;
     step("first handler: resume the new one", COTTONSEDGE_RESUME, reborn, 0);
     step("new handler: take the lock", COTTONSEDGE_WAIT, LOCK, 0);

@@ -5,7 +5,7 @@
 #include <stdio.h>
 #include <string.h>
 
-#include "../include/cottonsedge.h"
+#include "layout.h"
 
 static uint8_t tables[COTTONSEDGE_LENGTH];
 static int failed;
@@ -57,7 +57,7 @@ static void length(void)
     uint8_t more[COTTONSEDGE_LENGTH + 1];
 
     memset(more, 0, sizeof more);
-    check("698 bytes", COTTONSEDGE_LENGTH, 698);
+    check("the length is that of all fields", COTTONSEDGE_LENGTH, sizeof(Tables));
     check("boot of the length", cottonsedge_boot(tables, COTTONSEDGE_LENGTH), COTTONSEDGE_DONE);
     check("check of the length", cottonsedge_check(tables, COTTONSEDGE_LENGTH), COTTONSEDGE_DONE);
     check("boot of one less", cottonsedge_boot(tables, COTTONSEDGE_LENGTH - 1), COTTONSEDGE_UNSOUND);
@@ -117,7 +117,7 @@ static void shared_refusals(void)
 {
     boot();
     check("BAD_LINE is the bench's 12", COTTONSEDGE_BAD_LINE, 12);
-    check("NO_SUCH_CALL", refusal(COTTONSEDGE_COUNT + 1, 0, 0), COTTONSEDGE_NO_SUCH_CALL);
+    check("NO_SUCH_CALL", refusal(LAST_CALL + 1, 0, 0), COTTONSEDGE_NO_SUCH_CALL);
     check("SPARE_ARGUMENT", refusal(COTTONSEDGE_YIELD, 1, 0), COTTONSEDGE_SPARE_ARGUMENT);
     memset(tables, 0, sizeof tables);
     uint64_t answer = call(COTTONSEDGE_YIELD, 0, 0);

@@ -5,8 +5,11 @@ use crate::judge::{judge_alone, Failure, Judge, Make};
 use crate::random::Random;
 use crate::shrink::shrink;
 use crate::steps::{text, View};
-use second::bytes::{Bytes, COUNTS, CURSORS, LENGTH, ORDER, PRIORITIES, USED};
+use second::bytes::{state_byte, Bytes};
+use second::layout::{COUNT, LENGTH, NEXT_SEMAPHORE, ORDER, PRIORITY, STATE, USED};
+use second::layout::{CURRENT, FREE, READY, SUSPENDED, WAITING};
 use second::model::{Call, Model};
+use second::tables::{State, PROCESSES};
 use second::wrong::Wrong;
 
 /// The tables that calls from boot lead to.
@@ -76,13 +79,14 @@ fn short_damage(calls: &[Call], at: usize, value: u8, failure: Failure, view: Vi
     )
 }
 
+/// The cursors are one region, and so is what may stand behind them.
 const REGIONS: [(usize, usize); 6] = [
-    (0, PRIORITIES),
-    (PRIORITIES, USED),
-    (USED, COUNTS),
-    (COUNTS, ORDER),
-    (ORDER, CURSORS),
-    (CURSORS, LENGTH),
+    (STATE, PRIORITY),
+    (PRIORITY, USED),
+    (USED, COUNT),
+    (COUNT, ORDER),
+    (ORDER, NEXT_SEMAPHORE),
+    (NEXT_SEMAPHORE, LENGTH),
 ];
 
 /// Bytes of one region change places, or several bytes change at once.
@@ -129,24 +133,26 @@ fn noise(random: &mut Random) -> Bytes {
 /// Every byte in its range, the counts nearly right, and little else.
 fn plausible(random: &mut Random) -> Bytes {
     let mut bytes = [0; LENGTH];
-    for p in 1..32 {
-        bytes[p] = random.pick(&[0, 2, 3, 3, 4, 5]);
-        bytes[PRIORITIES + p] = if bytes[p] == 0 { 0 } else { 1 + random.below(3) as u8 };
+    for p in 1..PROCESSES {
+        let state = random.pick(&[FREE, READY, SUSPENDED, SUSPENDED, WAITING, WAITING + 1]);
+        bytes[STATE + p] = state;
+        bytes[PRIORITY + p] = if state == FREE { 0 } else { 1 + random.below(3) as u8 };
     }
-    bytes[0] = 2;
-    bytes[1 + random.below(31)] = 1;
-    let mut row: Vec<u8> = (0..32).collect();
+    bytes[STATE] = READY;
+    bytes[STATE + 1 + random.below(PROCESSES - 1)] = CURRENT;
+    let mut row: Vec<u8> = (0..PROCESSES as u8).collect();
     random.shuffle(&mut row);
-    bytes[ORDER..CURSORS].copy_from_slice(&row);
+    bytes[ORDER..ORDER + PROCESSES].copy_from_slice(&row);
     plausible_semaphore(&mut bytes, 0, random);
     plausible_semaphore(&mut bytes, 1, random);
     bytes
 }
 
 fn plausible_semaphore(bytes: &mut Bytes, s: usize, random: &mut Random) {
-    let waiters = bytes[..32].iter().filter(|&&state| state as usize == 4 + s).count() as i32;
+    let waiting = |&&state: &&u8| state == state_byte(State::Waiting(s));
+    let waiters = bytes[STATE..STATE + PROCESSES].iter().filter(waiting).count() as i32;
     let count = random.one_in(6) as i32 - waiters;
-    let at = COUNTS + 4 * s;
+    let at = COUNT + 4 * s;
     bytes[USED + s] = !random.one_in(6) as u8;
     bytes[at..at + 4].copy_from_slice(&count.to_le_bytes());
 }

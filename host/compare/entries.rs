@@ -1,7 +1,7 @@
 //! The three exported functions of the static library, over lent bytes with a
 //! fence on both sides that nobody may touch.
 
-use second::bytes::LENGTH;
+use second::layout::LENGTH;
 
 extern "C" {
     fn cottonsedge_call(tables: *mut u8, length: usize, call: u8, a: i32, b: i32) -> u64;

@@ -6,7 +6,8 @@ use crate::generate::one_call;
 use crate::shrink::shrink;
 use crate::steps::{one, text, View};
 use crate::tally::Tally;
-use second::bytes::{decode_sound, encode, Bytes, COUNTS, CURSORS, ORDER, USED};
+use second::bytes::{decode_sound, encode, Bytes};
+use second::layout::{COUNT, NEXT_SEMAPHORE, ORDER, USED};
 use second::model::{unsound, Call, Model};
 use second::row::Row;
 use second::sound::CLAUSES;
@@ -145,9 +146,9 @@ fn units(bytes: &Bytes) -> Vec<Unit> {
 fn owner(at: usize) -> (u8, usize) {
     match at {
         _ if at < USED => (0, at % PROCESSES),
-        _ if at < COUNTS => (1, at - USED),
-        _ if at < ORDER => (1, (at - COUNTS) / 4),
-        _ if at < CURSORS => (2, 0),
+        _ if at < COUNT => (1, at - USED),
+        _ if at < ORDER => (1, (at - COUNT) / 4),
+        _ if at < NEXT_SEMAPHORE => (2, 0),
         _ => (3, at),
     }
 }

@@ -4,10 +4,10 @@ use crate::damage::reached;
 use crate::entries::Lent;
 use crate::generate::stream;
 use crate::tally::Tally;
-use second::bytes::LENGTH;
+use second::layout::LENGTH;
 use second::model::unsound;
 
-pub const LENGTHS: [usize; 7] = [0, 1, 32, 697, 699, 1396, 10_000];
+pub const LENGTHS: [usize; 7] = [0, 1, 32, LENGTH - 1, LENGTH + 1, 2 * LENGTH, 10_000];
 
 pub fn compare(length: usize, seed: u64, tally: &mut Tally) -> Result<(), String> {
     let sound = reached(&stream(seed, 200));

@@ -1,7 +1,7 @@
 //! How deep the states were that calls were made in.
 
 use second::model::Call;
-use second::tables::{State, Tables};
+use second::tables::{State, Tables, PROCESSES, SEMAPHORES};
 
 #[derive(Default)]
 pub struct Marks {
@@ -75,7 +75,8 @@ impl Marks {
     }
 
     pub fn deep(&self) -> bool {
-        let full = self.queue == 31 && self.ready == 31 && self.live == 32 && self.used == 120;
+        let longest = self.queue == PROCESSES - 1 && self.ready == PROCESSES - 1;
+        let full = longest && self.live == PROCESSES && self.used == SEMAPHORES;
         let round = self.semaphore_rounds > 0 && self.slot_rounds > 0;
         let broken_up =
             self.kills_inside > 0 && self.deletes_with_waiters > 0 && self.resets_with_waiters > 0;

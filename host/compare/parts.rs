@@ -10,6 +10,7 @@ use compare::steps::View;
 use compare::streams::of_kind;
 use compare::tally::Tally;
 use compare::wrongs::caught;
+use second::layout::LAST_CALL;
 use second::wrong::KERNELS;
 
 pub struct Run<'a> {
@@ -82,8 +83,8 @@ impl Run<'_> {
             return;
         }
         self.tally.print();
-        let calls = (1..12).all(|call| self.tally.done[call] > 0);
-        self.report.holds("every call 01 to 0b was done", calls);
+        let calls = self.tally.done[1..].iter().all(|&done| done > 0);
+        self.report.holds(&format!("every call 01 to {:02x} was done", LAST_CALL), calls);
         let shown = |number: &usize| (*number != 12 || bench) && (*number != 15 || entries);
         let refusals = (1..16).filter(shown).all(|number| self.tally.numbers[number] > 0);
         self.report.holds("every refusal that can be shown was given", refusals);

@@ -2,7 +2,7 @@
 
 use crate::writer::{Writer, TOP};
 use second::model::Call;
-use second::tables::{State, SEMAPHORES};
+use second::tables::{State, HIGHEST, SEMAPHORES};
 
 pub const PLANS: &[fn(&mut Writer)] = &[
     mixed,
@@ -34,7 +34,7 @@ fn odd(w: &mut Writer) {
 }
 
 fn fill_processes(w: &mut Writer) {
-    let priority = w.random.below(63) as i32 + 1;
+    let priority = w.random.below(HIGHEST as usize) as i32 + 1;
     while w.call(0x06, priority, 0).0 == 0 {}
 }
 

@@ -1,20 +1,23 @@
 //! How often each call was done and each refusal given.
 
 use crate::marks::Marks;
+use second::layout::LAST_CALL;
+
+/// A row for each call; unknown ones stand in row 0.
+const ROWS: usize = LAST_CALL as usize + 1;
 
 #[derive(Default)]
 pub struct Tally {
     pub compared: u64,
-    pub done: [u64; 12],
-    pub refused: [[u64; 16]; 12],
+    pub done: [u64; ROWS],
+    pub refused: [[u64; 16]; ROWS],
     pub numbers: [u64; 16],
     pub marks: Marks,
 }
 
 impl Tally {
-    /// Unknown calls stand at 0.
     pub fn add(&mut self, call: u8, refusal: u8) {
-        let row = if (1..=11).contains(&call) { call as usize } else { 0 };
+        let row = if call <= LAST_CALL { call as usize } else { 0 };
         self.compared += 1;
         self.numbers[refusal as usize] += 1;
         match refusal {
@@ -25,7 +28,7 @@ impl Tally {
 
     pub fn print(&self) {
         println!("calls compared: {}", self.compared);
-        for call in 0..12 {
+        for call in 0..ROWS {
             let refused = self.refused[call].iter().enumerate().filter(|(_, &n)| n > 0);
             let text: Vec<String> = refused.map(|(number, n)| format!("{}: {}", number, n)).collect();
             let name = if call == 0 { "other".to_string() } else { format!("   {:02x}", call) };

@@ -1,8 +1,9 @@
 //! Calls chosen with the tables of the second program in view.
 
 use crate::random::Random;
+use second::layout::LAST_CALL;
 use second::model::{Call, Model};
-use second::tables::{State, PROCESSES, SEMAPHORES};
+use second::tables::{State, HIGHEST, PROCESSES, SEMAPHORES};
 
 pub const TOP: i32 = i32::MAX;
 
@@ -59,8 +60,8 @@ impl Writer {
 
     pub fn priority(&mut self) -> i32 {
         match self.random.below(12) {
-            0 => self.random.below(66) as i32 - 1,
-            1 => 63,
+            0 => self.random.below(HIGHEST as usize + 3) as i32 - 1,
+            1 => HIGHEST as i32,
             2 => 1,
             _ => self.random.pick(&[10, 20, 20, 20, 30]),
         }
@@ -102,8 +103,9 @@ impl Writer {
 
     /// Numbers out of range, spare arguments, unknown calls.
     pub fn odd(&mut self) -> Call {
-        let unknown = self.random.pick(&[0x00, 0x0c, 0x10, 0x80, 0xff]);
-        let call = if self.random.one_in(5) { unknown } else { 1 + self.random.below(11) as u8 };
+        let unknown = self.random.pick(&[0x00, LAST_CALL + 1, 0x10, 0x80, 0xff]);
+        let call =
+            if self.random.one_in(5) { unknown } else { 1 + self.random.below(LAST_CALL as usize) as u8 };
         let a = self.odd_argument();
         let b = if self.random.one_in(2) { 0 } else { self.odd_argument() };
         Call { call, a, b }

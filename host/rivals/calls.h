@@ -1,10 +1,11 @@
 /*
- * The eleven calls by hand over the same 698 bytes, and the library's three
- * functions. For a file that has `sound` and `current`.
+ * The calls by hand over the same bytes, and the library's three functions. For
+ * a file that has `sound` and `current`.
  */
 #ifndef CALLS_H
 #define CALLS_H
 
+#include "counts.h"
 #include "row.h"
 
 /* Each call has its checks in order. */
@@ -191,7 +192,7 @@ static Answer count(const Tables *t, int32_t a)
 
 static Answer step(Tables *t, uint8_t call, int32_t a, int32_t b)
 {
-    if (call < 0x01 || call > 0x0b)
+    if (call < COTTONSEDGE_WAIT || call > LAST_CALL)
         return refused(13);
     if ((b != 0 && call != COTTONSEDGE_RESET) || (a != 0 && call == COTTONSEDGE_YIELD))
         return refused(14);

@@ -1,10 +1,10 @@
 /*
- * The library's three functions in plain C over the same 698 bytes. The loops of
- * the check only gather a flag, so that a compiler can do many bytes at a time.
+ * The library's three functions in plain C over the same bytes. The loops of the
+ * check only gather a flag, so that a compiler can do many bytes at a time.
  */
 #include <string.h>
 
-#include "bytes.h"
+#include "../layout.h"
 
 static unsigned states_right(const Tables *t)
 {

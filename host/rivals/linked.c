@@ -2,11 +2,9 @@
 
 #include <string.h>
 
-enum {
-    P = COTTONSEDGE_PROCESSES,
-    S = COTTONSEDGE_SEMAPHORES,
-    NONE = LINKED_NONE
-};
+#include "../layout.h"
+
+enum { NONE = LINKED_NONE };
 
 /* The soundness check of document 01 over linked lists. */
 
@@ -16,7 +14,6 @@ typedef struct {
     int ready;
     int waiting;
 } Tally;
-
 
 /* Bits of what is wrong with a process that is in no list. */
 static unsigned unlisted(const LinkedProcess *p)
@@ -391,7 +388,7 @@ static int count(const Linked *t, int32_t a, int32_t *value)
 
 static int step(Linked *t, uint8_t call, int32_t a, int32_t b, int32_t *value)
 {
-    if (call < 0x01 || call > 0x0b)
+    if (call < COTTONSEDGE_WAIT || call > LAST_CALL)
         return 13;
     if ((b != 0 && call != COTTONSEDGE_RESET) || (a != 0 && call == COTTONSEDGE_YIELD))
         return 14;

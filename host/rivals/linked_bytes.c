@@ -3,20 +3,8 @@
  * held to the same comparisons: bytes into lists, one call, lists into bytes.
  * The lists know no row: its listed processes come first, the rest behind.
  */
+#include "counts.h"
 #include "linked.h"
-
-#include <string.h>
-
-enum {
-    P = COTTONSEDGE_PROCESSES,
-    S = COTTONSEDGE_SEMAPHORES,
-    PRIORITIES = P,
-    USED = PRIORITIES + P,
-    COUNTS = USED + S,
-    ORDER = COUNTS + 4 * S,
-    CURSORS = ORDER + P,
-    WAITING = 4
-};
 
 static int row_right(const uint8_t *order)
 {
@@ -28,13 +16,13 @@ static int row_right(const uint8_t *order)
     return 1;
 }
 
-static int well_formed(const uint8_t *bytes, size_t length)
+static int well_formed(const Tables *bytes, size_t length)
 {
-    int right = length == COTTONSEDGE_LENGTH;
+    int right = length == sizeof *bytes;
 
     for (int p = 0; right && p < P; p++)
-        right = bytes[p] < WAITING + S;
-    return right && row_right(bytes + ORDER);
+        right = bytes->state[p] < WAITING + S;
+    return right && row_right(bytes->order);
 }
 
 static void append(Linked *t, LinkedList *list, uint8_t p)
@@ -47,40 +35,33 @@ static void append(Linked *t, LinkedList *list, uint8_t p)
     list->tail = p;
 }
 
-static void read_process(Linked *t, const uint8_t *bytes, uint8_t p)
+static void read_process(Linked *t, const Tables *bytes, uint8_t p)
 {
-    uint8_t state = bytes[p];
+    uint8_t state = bytes->state[p];
 
-    t->process[p].priority = bytes[PRIORITIES + p];
+    t->process[p].priority = bytes->priority[p];
     t->process[p].state = state < WAITING ? state : LINKED_WAITING;
     if (state >= WAITING) {
         t->process[p].semaphore = state - WAITING;
         append(t, &t->semaphore[state - WAITING].queue, p);
     }
-    if (state == LINKED_READY)
+    if (state == READY)
         append(t, &t->ready, p);
-    if (state == LINKED_CURRENT)
+    if (state == CURRENT)
         t->current = p;
 }
 
-static void read_semaphore(Linked *t, const uint8_t *bytes, int s)
-{
-    const uint8_t *w = bytes + COUNTS + 4 * s;
-    uint32_t u = w[0] | (uint32_t)w[1] << 8 | (uint32_t)w[2] << 16 | (uint32_t)w[3] << 24;
-
-    t->semaphore[s].used = bytes[USED + s];
-    memcpy(&t->semaphore[s].count, &u, sizeof u);
-}
-
-static void read_tables(Linked *t, const uint8_t *bytes)
+static void read_tables(Linked *t, const Tables *bytes)
 {
     linked_boot(t);
     for (int i = 0; i < P; i++)
-        read_process(t, bytes, bytes[ORDER + i]);
-    for (int s = 0; s < S; s++)
-        read_semaphore(t, bytes, s);
-    t->next_semaphore = bytes[CURSORS];
-    t->next_process = bytes[CURSORS + 1];
+        read_process(t, bytes, bytes->order[i]);
+    for (unsigned s = 0; s < S; s++) {
+        t->semaphore[s].used = bytes->used[s];
+        t->semaphore[s].count = count_of(bytes, s);
+    }
+    t->next_semaphore = bytes->next_semaphore;
+    t->next_process = bytes->next_process;
 }
 
 static uint8_t *write_list(const Linked *t, LinkedList list, uint8_t *place)
@@ -101,45 +82,45 @@ static void write_row(const Linked *t, uint8_t *order)
             *place++ = p;
 }
 
-static void write_tables(const Linked *t, uint8_t *bytes)
+static void write_tables(const Linked *t, Tables *bytes)
 {
     for (int p = 0; p < P; p++) {
         const LinkedProcess *entry = &t->process[p];
         int waits = entry->state == LINKED_WAITING;
-        bytes[p] = waits ? (uint8_t)(WAITING + entry->semaphore) : entry->state;
-        bytes[PRIORITIES + p] = entry->priority;
+        bytes->state[p] = waits ? (uint8_t)(WAITING + entry->semaphore) : entry->state;
+        bytes->priority[p] = entry->priority;
     }
-    for (int s = 0; s < S; s++) {
-        uint32_t u = (uint32_t)t->semaphore[s].count;
-        bytes[USED + s] = t->semaphore[s].used;
-        for (int i = 0; i < 4; i++)
-            bytes[COUNTS + 4 * s + i] = (uint8_t)(u >> 8 * i);
+    for (unsigned s = 0; s < S; s++) {
+        bytes->used[s] = t->semaphore[s].used;
+        set_count(bytes, s, t->semaphore[s].count);
     }
-    write_row(t, bytes + ORDER);
-    bytes[CURSORS] = t->next_semaphore;
-    bytes[CURSORS + 1] = t->next_process;
+    write_row(t, bytes->order);
+    bytes->next_semaphore = t->next_semaphore;
+    bytes->next_process = t->next_process;
 }
 
 uint8_t cottonsedge_check(const uint8_t *tables, size_t length)
 {
+    const Tables *bytes = (const Tables *)tables;
     Linked t;
 
-    if (!well_formed(tables, length))
+    if (!well_formed(bytes, length))
         return 15;
-    read_tables(&t, tables);
+    read_tables(&t, bytes);
     return linked_check(&t);
 }
 
 uint64_t cottonsedge_call(uint8_t *tables, size_t length, uint8_t call, int32_t a, int32_t b)
 {
+    Tables *bytes = (Tables *)tables;
     Linked t;
 
-    if (!well_formed(tables, length))
+    if (!well_formed(bytes, length))
         return UINT64_C(0x0fffffffffff);
-    read_tables(&t, tables);
+    read_tables(&t, bytes);
     uint64_t answer = linked_call(&t, call, a, b);
     if (cottonsedge_refusal(answer) == COTTONSEDGE_DONE)
-        write_tables(&t, tables);
+        write_tables(&t, bytes);
     return answer;
 }
 
@@ -150,6 +131,6 @@ uint8_t cottonsedge_boot(uint8_t *tables, size_t length)
     if (length != COTTONSEDGE_LENGTH)
         return 15;
     linked_boot(&t);
-    write_tables(&t, tables);
+    write_tables(&t, (Tables *)tables);
     return 0;
 }

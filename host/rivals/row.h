@@ -4,7 +4,9 @@
 
 #include <string.h>
 
-#include "bytes.h"
+#include "../layout.h"
+
+enum { NONE = 255 };
 
 static unsigned first_in(const Tables *t, unsigned state)
 {

@@ -6,7 +6,7 @@
 #include <emmintrin.h>
 #include <string.h>
 
-#include "bytes.h"
+#include "../layout.h"
 
 enum { LANES = 16, HALF = P / 2, CELLS = S + HALF };
 

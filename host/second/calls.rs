@@ -1,7 +1,8 @@
-//! The eleven calls, each with its checks in the order of document 01.
+//! The calls, each with its checks in the order of document 01.
 
 use crate::kernel::Answer::{self, Done, Refused};
 use crate::kernel::Kernel;
+use crate::layout::LAST_CALL;
 use crate::tables::{Process, Semaphore, State, HIGHEST, PROCESSES, SEMAPHORES};
 use crate::wrong::Wrong;
 
@@ -21,7 +22,7 @@ impl Kernel {
     }
 
     fn enter(&mut self, call: u8, a: i32, b: i32) -> Answer {
-        let known = (0x01..=0x0b).contains(&call);
+        let known = (0x01..=LAST_CALL).contains(&call);
         let spare = match call {
             0x05 => false,
             0x0a => a != 0 || b != 0,

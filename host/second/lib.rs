@@ -4,6 +4,7 @@
 pub mod bytes;
 pub mod calls;
 pub mod kernel;
+pub mod layout;
 pub mod line;
 pub mod model;
 pub mod record;

@@ -82,4 +82,5 @@ const Contender contenders[] = {
 
 const size_t contenders_count = sizeof contenders / sizeof contenders[0];
 
+typedef char room_for_bytes[COTTONSEDGE_LENGTH <= ROOM ? 1 : -1];
 typedef char room_for_linked[sizeof(Linked) <= ROOM ? 1 : -1];

@@ -1,0 +1,4 @@
+//! Where each field of the lent bytes begins, how many bytes there are, the values of
+//! a state byte, and the last call: `host/layout.h`, as `host/layout.c` prints it.
+
+include!("../../target/host/layout.rs");
