@@ -1,8 +1,9 @@
 -- What the loops of the check count and add up.
-use Prim.Native.Nat.{ℕ, _+_, _/_, _<_, _≤_}
+use Prim.Native.Nat.{ℕ, _+_, _-_, _/_, _<_, _≤_}
 use mathlib.Core.Path.{_≡_}
 use mathlib.Core.Bool.{Bool}
 use mathlib.Core.List.{List}
+use lib.Dec.{ltb}
 use lib.ListN.{getD, length}
 use Rattle.lists.specs.Lists.{if_then_else_}
 use Rattle.lists.specs.Numbers.{total}
@@ -11,6 +12,7 @@ use Rattle.tables.specs.declared.Tables.{Tables}
 use Rattle.tables.specs.Limits.{processLimit, semaphoreLimit}
 use Rattle.tables.specs.Readers.{stateOf}
 use Rattle.tables.specs.States.{waitsOn}
+use Rattle.layout.specs.Bytes.{waitingFrom}
 
 -- w over the numbers below n of the processes whose state passes the test
 abbrev pub tally : Tables → (State → Bool) → (ℕ → ℕ) → ℕ → ℕ
@@ -31,6 +33,10 @@ halfLimit = processLimit / 2
 -- a cell for each semaphore, and a spare one for each process of the tally
 abbrev pub cellLimit : ℕ
 cellLimit = semaphoreLimit + halfLimit
+
+-- where process i of a tally is counted, by its state byte: at its semaphore, or at its spare cell
+abbrev pub cellOf : ℕ → ℕ → ℕ
+cellOf i state = if ltb state waitingFrom then semaphoreLimit + i else (state - waitingFrom)
 
 -- the cells after n processes, from one on: whoever waits is counted at the semaphore, and nobody twice
 pub record Tallied (t : Tables) (from n : ℕ) (cells : List ℕ) : Type 0 where

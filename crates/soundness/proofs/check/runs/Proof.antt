@@ -11,16 +11,25 @@ currents-requires : tie.Need-currents-requires
 currents-requires c κs = formed-long (c .before .args .bytes .now) (c .before .pre .0)
 
 returns : tie.Need-returns
-returns c = sym (not-one (c .before .before .before .args .bytes .now) (c .before .before .before .pre .0) (c .before .before .before .pre .1) _ (c .before .currents .ensures) (c .if1 .taken))
+returns c =
+    let bs = c .before .before .before .args .bytes .now in
+    let pre = c .before .before .before .pre in
+    sym (not-one bs (pre .0) (pre .1) _ (c .before .currents .ensures) (c .if1 .taken))
 
 current-requires : tie.Need-current-requires
-current-requires c κs = formed-long (c .before .before .before .args .bytes .now) (c .before .before .before .pre .0)
+current-requires c κs =
+    let bs = c .before .before .before .args .bytes .now in
+    let pre = c .before .before .before .pre in
+    formed-long bs (pre .0)
 
 cast-c : tie.Need-cast-c
 cast-c c = search needs
 
 keys-requires : tie.Need-keys-requires
-keys-requires c κs = (formed-long (c .before .before .before .before .args .bytes .now) (c .before .before .before .before .pre .0), priority-small (c .before .before .before .before .args .bytes .now) (c .before .before .before .before .pre .0) (c .before .before .before .before .pre .1))
+keys-requires c κs =
+    let bs = c .before .before .before .before .args .bytes .now in
+    let pre = c .before .before .before .before .pre in
+    (formed-long bs (pre .0), priority-small bs (pre .0) (pre .1))
 
 add-ready-falls : tie.Need-add-ready-falls
 add-ready-falls c = search needs
@@ -28,29 +37,50 @@ add-ready-falls c = search needs
 shared-slice-read-ready-falls : tie.Need-shared-slice-read-ready-falls
 shared-slice-read-ready-falls c =
     let bs = c .before .before .before .before .before .before .before .args .bytes .now in
-    let s = current-small bs (c .before .before .before .before .before .before .before .pre .0) (c .before .before .before .before .before .before .before .pre .1) _ (c .before .before .before .before .before .currents .ensures) (c .before .before .before .before .if1 .left) _ (c .before .before .before .current .ensures) in
-    omega (arith, formed-long bs (c .before .before .before .before .before .before .before .pre .0))
+    let pre = c .before .before .before .before .before .before .before .pre in
+    let currents = c .before .before .before .before .before .currents in
+    let if1 = c .before .before .before .before .if1 in
+    let current = c .before .before .before .current in
+    let s = current-small bs (pre .0) (pre .1) _ (currents .ensures) (if1 .left) _ (current .ensures) in
+    omega (arith, formed-long bs (pre .0))
 
 add-ready-falls-2 : tie.Need-add-ready-falls-2
 add-ready-falls-2 c =
     let bs = c .before .before .before .before .before .before .before .args .bytes .now in
-    let s = current-small bs (c .before .before .before .before .before .before .before .pre .0) (c .before .before .before .before .before .before .before .pre .1) _ (c .before .before .before .before .before .currents .ensures) (c .before .before .before .before .if1 .left) _ (c .before .before .before .current .ensures) in
-    let l = priority-small bs (c .before .before .before .before .before .before .before .pre .0) (c .before .before .before .before .before .before .before .pre .1) _ s in
+    let pre = c .before .before .before .before .before .before .before .pre in
+    let currents = c .before .before .before .before .before .currents in
+    let if1 = c .before .before .before .before .if1 in
+    let current = c .before .before .before .current in
+    let s = current-small bs (pre .0) (pre .1) _ (currents .ensures) (if1 .left) _ (current .ensures) in
+    let l = priority-small bs (pre .0) (pre .1) _ s in
     record { fits = omega arith }
 
 ready-falls-requires : tie.Need-ready-falls-requires
 ready-falls-requires c κs =
     let bs = c .before .before .before .before .before .before .before .args .bytes .now in
-    (formed-long bs (c .before .before .before .before .before .before .before .pre .0), formed-place bs (c .before .before .before .before .before .before .before .pre .0), c .before .before .keys .ensures, omega arith)
+    let pre = c .before .before .before .before .before .before .before .pre in
+    (formed-long bs (pre .0), formed-place bs (pre .0), c .before .before .keys .ensures, omega arith)
 
 returns-2 : tie.Need-returns-2
-returns-2 c = sym (not-falling (c .before .before .before .before .before .before .before .before .before .args .bytes .now) (c .before .before .before .before .before .before .before .before .before .pre .0) (c .before .before .before .before .before .before .before .before .before .pre .1) _ (c .before .before .before .before .before .before .before .currents .ensures) (c .before .before .before .before .before .before .if1 .left) _ (c .before .before .before .before .before .current .ensures) _ (c .before .ready-falls .ensures) (not-true _ (c .if2 .taken)))
+returns-2 c =
+    let bs = c .before .before .before .before .before .before .before .before .before .args .bytes .now in
+    let pre = c .before .before .before .before .before .before .before .before .before .pre in
+    let currents = c .before .before .before .before .before .before .before .currents in
+    let if1 = c .before .before .before .before .before .before .if1 in
+    let current = c .before .before .before .before .before .current in
+    sym (not-falling bs (pre .0) (pre .1) _ (currents .ensures) (if1 .left) _ (current .ensures) _ (c .before .ready-falls .ensures) (not-true _ (c .if2 .taken)))
 
 queues-fit-requires : tie.Need-queues-fit-requires
 queues-fit-requires c κs = search needs
 
 returns-3 : tie.Need-returns-3
-returns-3 c = c .queues-fit .ensures ∙ counts-left (c .before .before .before .before .before .before .before .before .before .before .args .bytes .now) (c .before .before .before .before .before .before .before .before .before .before .pre .0) (c .before .before .before .before .before .before .before .before .before .before .pre .1) _ (c .before .before .before .before .before .before .before .before .currents .ensures) (c .before .before .before .before .before .before .before .if1 .left) _ (c .before .before .before .before .before .before .current .ensures) _ (c .before .before .ready-falls .ensures) (not-false _ (c .before .if2 .left))
+returns-3 c =
+    let bs = c .before .before .before .before .before .before .before .before .before .before .args .bytes .now in
+    let pre = c .before .before .before .before .before .before .before .before .before .before .pre in
+    let currents = c .before .before .before .before .before .before .before .before .currents in
+    let if1 = c .before .before .before .before .before .before .before .if1 in
+    let current = c .before .before .before .before .before .before .current in
+    c .queues-fit .ensures ∙ counts-left bs (pre .0) (pre .1) _ (currents .ensures) (if1 .left) _ (current .ensures) _ (c .before .before .ready-falls .ensures) (not-false _ (c .before .if2 .left))
 
 pub runs-spec : {M : Type 1} → statement M
 runs-spec =

@@ -43,10 +43,18 @@ element-copy-out-count-fits-3 : tie.Need-element-copy-out-count-fits-3 Inv-loop 
 element-copy-out-count-fits-3 c = search needs
 
 add-count-fits-2 : tie.Need-add-count-fits-2 Inv-loop μ-loop
-add-count-fits-2 c = let m = c .before .before .before .before .before .before .before .pre .3 (c .before .before .before .before .before .before .before .args .from + c .before .before .before .before .before .loop .i) in let n = c .before .before .before .before .before .before .before .pre .4 (c .before .before .before .before .before .before .before .args .from + c .before .before .before .before .before .loop .i) in record { fits = omega arith }
+add-count-fits-2 c =
+    let pre = c .before .before .before .before .before .before .before .pre in
+    let args = c .before .before .before .before .before .before .before .args in
+    let loop = c .before .before .before .before .before .loop in
+    let m = pre .3 (args .from + loop .i) in let n = pre .4 (args .from + loop .i) in record { fits = omega arith }
 
 count-fits-requires : tie.Need-count-fits-requires Inv-loop μ-loop
-count-fits-requires c κs = let m = c .before .before .before .before .before .before .before .pre .3 (c .before .before .before .before .before .before .before .args .from + c .before .before .before .before .before .loop .i) in let n = c .before .before .before .before .before .before .before .pre .4 (c .before .before .before .before .before .before .before .args .from + c .before .before .before .before .before .loop .i) in omega arith
+count-fits-requires c κs =
+    let pre = c .before .before .before .before .before .before .before .pre in
+    let args = c .before .before .before .before .before .before .before .args in
+    let loop = c .before .before .before .before .before .loop in
+    let m = pre .3 (args .from + loop .i) in let n = pre .4 (args .from + loop .i) in omega arith
 
 add-i : tie.Need-add-i Inv-loop μ-loop
 add-i c = search needs
@@ -56,12 +64,16 @@ loop-less c = search needs
 
 loop-again : tie.Need-loop-again Inv-loop μ-loop
 loop-again c =
-    let bs = c .before .before .before .before .before .before .before .before .args .bytes .now in
-    let many = c .before .before .before .before .before .before .before .before .args .many .now in
-    let more = c .before .before .before .before .before .before .before .before .args .more .now in
-    let s = c .before .before .before .before .before .before .before .before .args .from + c .before .before .before .before .before .before .loop .i in
-    let one : c .count-fits .result ≡ semaphoreFits (semaphore (fromBytes bs) s) (getD many s 0 + getD more s 0) = c .count-fits .ensures (countAt bs s) (c .before .before .before .before .before .before .before .before .pre .2 .said (c .before .before .before .before .before .before .loop .i) (omega arith)) ∙ sym (rw (semaphore-said bs s (omega arith))) in
-    (search needs, all-next (λ i. semaphoreFits (semaphore (fromBytes bs) (c .before .before .before .before .before .before .before .before .args .from + i)) (getD many (c .before .before .before .before .before .before .before .before .args .from + i) 0 + getD more (c .before .before .before .before .before .before .before .before .args .from + i) 0)) (c .before .before .before .before .before .before .loop .i) _ _ (c .before .before .before .before .before .before .loop .inv .1) one, search needs, search needs)
+    let args = c .before .before .before .before .before .before .before .before .args in
+    let bs = args .bytes .now in
+    let pre = c .before .before .before .before .before .before .before .before .pre in
+    let loop = c .before .before .before .before .before .before .loop in
+    let i = loop .i in
+    let many = args .many .now in
+    let more = args .more .now in
+    let s = args .from + i in
+    let one : c .count-fits .result ≡ semaphoreFits (semaphore (fromBytes bs) s) (getD many s 0 + getD more s 0) = c .count-fits .ensures (countAt bs s) (pre .2 .said i (omega arith)) ∙ sym (rw (semaphore-said bs s (omega arith))) in
+    (search needs, all-next (λ i. semaphoreFits (semaphore (fromBytes bs) (args .from + i)) (getD many (args .from + i) 0 + getD more (args .from + i) 0)) i _ _ (loop .inv .1) one, search needs, search needs)
 
 returns : tie.Need-returns Inv-loop μ-loop
 returns c =

@@ -27,7 +27,8 @@ block-fits-requires-2 c κs = search needs
 
 returns : tie.Need-returns
 returns c =
-    let f : ℕ → Bool = λ s. semaphoreFits (semaphore (fromBytes (c .before .before .before .before .before .before .before .args .bytes .now)) s) (getD (c .before .before .before .before .before .before .before .args .many .now) s 0 + getD (c .before .before .before .before .before .before .before .args .more .now) s 0) in
+    let args = c .before .before .before .before .before .before .before .args in
+    let f : ℕ → Bool = λ s. semaphoreFits (semaphore (fromBytes (args .bytes .now)) s) (getD (args .many .now) s 0 + getD (args .more .now) s 0) in
     rw (c .before .before .block-fits .ensures, c .block-fits2 .ensures) (all-overlap f blockLimit (semaphoreLimit - blockLimit) semaphoreLimit (omega arith) refl)
 
 pub counts-fit-spec : {M : Type 1} → statement M

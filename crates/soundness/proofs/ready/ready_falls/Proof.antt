@@ -25,22 +25,33 @@ shared-slice-read-p : tie.Need-shared-slice-read-p Inv-loop μ-loop
 shared-slice-read-p c = search needs
 
 cast-p : tie.Need-cast-p Inv-loop μ-loop
-cast-p c = let hp : getD (c .before .before .before .before .args .bytes .now) (orderAt + c .before .before .loop .i) 0 < processLimit = c .before .before .before .before .pre .1 (c .before .before .loop .i) (omega arith) in search (needs, hp)
+cast-p c =
+    let bs = c .before .before .before .before .args .bytes .now in
+    let pre = c .before .before .before .before .pre in
+    let loop = c .before .before .loop in
+    let hp : getD bs (orderAt + loop .i) 0 < processLimit = pre .1 (loop .i) (omega arith) in search (needs, hp)
 
 element-copy-out-v : tie.Need-element-copy-out-v Inv-loop μ-loop
-element-copy-out-v c = let hp : getD (c .before .before .before .before .args .bytes .now) (orderAt + c .before .before .loop .i) 0 < processLimit = c .before .before .before .before .pre .1 (c .before .before .loop .i) (omega arith) in omega arith
+element-copy-out-v c =
+    let bs = c .before .before .before .before .args .bytes .now in
+    let pre = c .before .before .before .before .pre in
+    let loop = c .before .before .loop in
+    let hp : getD bs (orderAt + loop .i) 0 < processLimit = pre .1 (loop .i) (omega arith) in omega arith
 
 returns : tie.Need-returns Inv-loop μ-loop
 returns c =
-    let bs = c .before .before .before .before .before .before .args .bytes .now in
-    let named = c .before .before .before .before .before .before .pre .1 in
-    let i = c .before .before .before .before .loop .i in
+    let args = c .before .before .before .before .before .before .args in
+    let bs = args .bytes .now in
+    let pre = c .before .before .before .before .before .before .pre in
+    let loop = c .before .before .before .before .loop in
+    let i = loop .i in
+    let named = pre .1 in
     let p = getD bs (orderAt + i) 0 in
-    let v = getD (c .before .before .before .before .before .before .args .k .now) p 0 in
-    let hp : getD (c .before .before .before .before .before .before .args .bytes .now) (orderAt + c .before .before .before .before .loop .i) 0 < processLimit = named i (omega arith) in
-    let key = c .before .before .before .before .before .before .pre .2 p hp in
-    let stop = key-stop bs named i p (omega arith) refl (c .before .before .before .before .loop .last) v key (c .before .before .before .before .loop .inv .1) (c .if1 .taken) in
-    sym (sym (left-all bs named (c .before .before .before .before .before .before .args .top - 1)) ∙ c .before .before .before .before .loop .inv .2 named ∙ stop)
+    let v = getD (args .k .now) p 0 in
+    let hp : getD bs (orderAt + i) 0 < processLimit = named i (omega arith) in
+    let key = pre .2 p hp in
+    let stop = key-stop bs named i p (omega arith) refl (loop .last) v key (loop .inv .1) (c .if1 .taken) in
+    sym (sym (left-all bs named (args .top - 1)) ∙ loop .inv .2 named ∙ stop)
 
 latest-requires : tie.Need-latest-requires Inv-loop μ-loop
 latest-requires c κs = search needs
@@ -53,22 +64,29 @@ loop-less c = search needs
 
 loop-again : tie.Need-loop-again Inv-loop μ-loop
 loop-again c =
-    let bs = c .before .before .before .before .before .before .before .args .bytes .now in
-    let named = c .before .before .before .before .before .before .before .pre .1 in
-    let i = c .before .before .before .before .before .loop .i in
+    let args = c .before .before .before .before .before .before .before .args in
+    let bs = args .bytes .now in
+    let pre = c .before .before .before .before .before .before .before .pre in
+    let loop = c .before .before .before .before .before .loop in
+    let i = loop .i in
+    let named = pre .1 in
     let p = getD bs (orderAt + i) 0 in
-    let v = getD (c .before .before .before .before .before .before .before .args .k .now) p 0 in
-    let hp : getD (c .before .before .before .before .before .before .before .args .bytes .now) (orderAt + c .before .before .before .before .before .loop .i) 0 < processLimit = named i (omega arith) in
-    let key = c .before .before .before .before .before .before .before .pre .2 p hp in
+    let v = getD (args .k .now) p 0 in
+    let hp : getD bs (orderAt + i) 0 < processLimit = named i (omega arith) in
+    let key = pre .2 p hp in
     let e = c .latest .ensures in (
       search needs,
-      rw e (key-some bs named i p (omega arith) refl (c .before .before .before .before .before .loop .last) v key (c .before .before .before .before .before .loop .inv .1)),
-      (λ named. c .before .before .before .before .before .loop .inv .2 named ∙ key-on bs named i p (omega arith) refl (c .before .before .before .before .before .loop .last) v key (c .before .before .before .before .before .loop .inv .1) (c .before .if1 .left) ∙ ap (λ (n : ℕ). left bs named (n - 1) (i + 1)) (sym e)),
+      rw e (key-some bs named i p (omega arith) refl (loop .last) v key (loop .inv .1)),
+      (λ named. loop .inv .2 named ∙ key-on bs named i p (omega arith) refl (loop .last) v key (loop .inv .1) (c .before .if1 .left) ∙ ap (λ (n : ℕ). left bs named (n - 1) (i + 1)) (sym e)),
       search needs,
     )
 
 returns-2 : tie.Need-returns-2 Inv-loop μ-loop
-returns-2 c = sym (sym (left-all (c .before .before .before .args .bytes .now) (c .before .before .before .pre .1) (c .before .before .before .args .top - 1)) ∙ c .before .loop .inv .2 (c .before .before .before .pre .1) ∙ left-none (c .before .before .before .args .bytes .now) (c .before .before .before .pre .1) (c .before .loop .last - 1) (c .before .loop .i) (omega arith))
+returns-2 c =
+    let args = c .before .before .before .args in
+    let bs = args .bytes .now in
+    let pre = c .before .before .before .pre in
+    sym (sym (left-all bs (pre .1) (args .top - 1)) ∙ c .before .loop .inv .2 (pre .1) ∙ left-none bs (pre .1) (c .before .loop .last - 1) (c .before .loop .i) (omega arith))
 
 pub ready-falls-spec : {M : Type 1} → statement M
 ready-falls-spec =

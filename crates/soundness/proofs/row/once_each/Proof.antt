@@ -35,11 +35,18 @@ shared-slice-read-p : tie.Need-shared-slice-read-p Inv-loop μ-loop
 shared-slice-read-p c = search needs
 
 cast-seen : tie.Need-cast-seen Inv-loop μ-loop
-cast-seen c = let hp : getD (c .before .before .before .args .bytes .now) (orderAt + c .before .before .loop .i) 0 < processLimit = c .before .before .before .pre .1 (c .before .before .loop .i) (omega arith) in search (needs, hp)
+cast-seen c =
+    let bs = c .before .before .before .args .bytes .now in
+    let pre = c .before .before .before .pre in
+    let loop = c .before .before .loop in
+    let hp : getD bs (orderAt + loop .i) 0 < processLimit = pre .1 (loop .i) (omega arith) in search (needs, hp)
 
 shl-seen : tie.Need-shl-seen Inv-loop μ-loop
 shl-seen c =
-    let hp : getD (c .before .before .before .args .bytes .now) (orderAt + c .before .before .loop .i) 0 < processLimit = c .before .before .before .pre .1 (c .before .before .loop .i) (omega arith) in
+    let bs = c .before .before .before .args .bytes .now in
+    let pre = c .before .before .before .pre in
+    let loop = c .before .before .loop in
+    let hp : getD bs (orderAt + loop .i) 0 < processLimit = pre .1 (loop .i) (omega arith) in
     omega arith
 
 add-i : tie.Need-add-i Inv-loop μ-loop
@@ -51,14 +58,16 @@ loop-less c = search needs
 loop-again : tie.Need-loop-again Inv-loop μ-loop
 loop-again c =
     let bs = c .before .before .before .args .bytes .now in
-    let i = c .before .before .loop .i in
+    let pre = c .before .before .before .pre in
+    let loop = c .before .before .loop in
+    let i = loop .i in
     let p = getD bs (orderAt + i) 0 in
-    let hp : p < processLimit = c .before .before .before .pre .1 i (omega arith) in
+    let hp : p < processLimit = pre .1 i (omega arith) in
     let o = fromBytes bs .order in
     let l : i < length o = rw (order-long bs) (omega arith) in (
       search needs,
-      ap (bitOr (c .before .before .loop .seen)) (shifted p hp)
-          ∙ ap (λ (k : ℕ). bitOr k (2 ^ p)) (c .before .before .loop .inv .1)
+      ap (bitOr (loop .seen)) (shifted p hp)
+          ∙ ap (λ (k : ℕ). bitOr k (2 ^ p)) (loop .inv .1)
           ∙ mask-or processLimit (λ q. ltb 0 (times q (take i o))) p hp
           ∙ mask-ext processLimit (λ q. ltb 0 (times q (take i o)) || eqb q p) (λ q. ltb 0 (times q (take (i + 1) o))) (λ q h. ap (λ (k : ℕ). ltb 0 (times q (take i o)) || eqb q k) (sym (place-said bs i (omega arith))) ∙ among-next o i q l),
       search needs,
