@@ -1,27 +1,29 @@
+-- Each test in order: a failed one fails a clause, and with all passed the row is left. Assumes nothing.
 use native.Mathlib.Omega.{arith}
+use mathlib.Core.Path.{_≡_}
+use lib.ListN.{length}
 use borrow.Author.Needs.{needs}
+use Rattle.layout.specs.Offsets.{size}
 use Rattle.layout.proofs.Image.{formed-long, formed-place}
 use Rattle.lists.proofs.Bools.{not-false, not-true}
 use Rattle.soundness.proofs.check.laid.Statement.{statement}
 use Rattle.soundness.proofs.LaidBytes.{far-process, far-semaphore, null-wrong, row-left, slots-wrong}
 use Rattle.soundness.proofs.check.laid.Tie as tie
 
+long : (c : tie.Start) → length (c .args .bytes .now) ≡ size
+long c = formed-long (c .args .bytes .now) (c .pre)
+
 shared-slice-read-if1 : tie.Need-shared-slice-read-if1
-shared-slice-read-if1 c = let l = formed-long (c .before .before .args .bytes .now) (c .before .before .pre) in omega arith
+shared-slice-read-if1 c = let l = long (c .before .before) in omega arith
 
 cast-if1 : tie.Need-cast-if1
 cast-if1 c = search needs
 
 returns : tie.Need-returns
-returns c =
-    let bs = c .before .before .before .args .bytes .now in
-    far-semaphore bs (c .if1 .taken)
+returns c = far-semaphore (c .before .before .before .args .bytes .now) (c .if1 .taken)
 
 shared-slice-read-if2 : tie.Need-shared-slice-read-if2
-shared-slice-read-if2 c =
-    let bs = c .before .before .before .before .args .bytes .now in
-    let pre = c .before .before .before .before .pre in
-    let l = formed-long bs pre in omega arith
+shared-slice-read-if2 c = let l = long (c .before .before .before .before) in omega arith
 
 cast-if2 : tie.Need-cast-if2
 cast-if2 c = search needs
@@ -32,16 +34,10 @@ returns-2 c =
     far-process bs (c .before .before .if1 .left) (c .if2 .taken)
 
 shared-slice-read-null-fits : tie.Need-shared-slice-read-null-fits
-shared-slice-read-null-fits c =
-    let bs = c .before .before .before .before .before .before .args .bytes .now in
-    let pre = c .before .before .before .before .before .before .pre in
-    let l = formed-long bs pre in omega arith
+shared-slice-read-null-fits c = let l = long (c .before .before .before .before .before .before) in omega arith
 
 shared-slice-read-null-fits-2 : tie.Need-shared-slice-read-null-fits-2
-shared-slice-read-null-fits-2 c =
-    let bs = c .before .before .before .before .before .before .before .args .bytes .now in
-    let pre = c .before .before .before .before .before .before .before .pre in
-    let l = formed-long bs pre in omega arith
+shared-slice-read-null-fits-2 c = let l = long (c .before .before .before .before .before .before .before) in omega arith
 
 null-fits-requires : tie.Need-null-fits-requires
 null-fits-requires c κs = search needs
@@ -54,10 +50,7 @@ returns-3 c =
     null-wrong bs (if1 .left) (if2 .left) _ (c .before .null-fits .ensures) (not-true _ (c .if3 .taken))
 
 slots-fit-requires : tie.Need-slots-fit-requires
-slots-fit-requires c κs =
-    let bs = c .before .before .before .before .before .before .before .before .before .args .bytes .now in
-    let pre = c .before .before .before .before .before .before .before .before .before .pre in
-    formed-long bs pre
+slots-fit-requires c κs = long (c .before .before .before .before .before .before .before .before .before)
 
 returns-4 : tie.Need-returns-4
 returns-4 c =
@@ -69,9 +62,8 @@ returns-4 c =
 
 once-each-requires : tie.Need-once-each-requires
 once-each-requires c κs =
-    let bs = c .before .before .before .before .before .before .before .before .before .before .before .args .bytes .now in
-    let pre = c .before .before .before .before .before .before .before .before .before .before .before .pre in
-    (formed-long bs pre, formed-place bs pre)
+    let start = c .before .before .before .before .before .before .before .before .before .before .before in
+    (long start, formed-place (start .args .bytes .now) (start .pre))
 
 returns-5 : tie.Need-returns-5
 returns-5 c =
@@ -80,7 +72,8 @@ returns-5 c =
     let if2 = c .before .before .before .before .before .before .before .if2 in
     let null-fits = c .before .before .before .before .null-fits in
     let if3 = c .before .before .before .if3 in
-    row-left bs (if1 .left) (if2 .left) _ (null-fits .ensures) (not-false _ (if3 .left)) _ (c .before .before .slots-fit .ensures) (not-false _ (c .before .if4 .left)) _ (c .once-each .ensures)
+    let slots-fit = c .before .before .slots-fit in
+    row-left bs (if1 .left) (if2 .left) _ (null-fits .ensures) (not-false _ (if3 .left)) _ (slots-fit .ensures) (not-false _ (c .before .if4 .left)) _ (c .once-each .ensures)
 
 pub laid-spec : {M : Type 1} → statement M
 laid-spec =

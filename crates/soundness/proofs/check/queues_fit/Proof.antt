@@ -12,17 +12,17 @@ tally-requires c κs =
 
 counts-fit-requires : tie.Need-counts-fit-requires
 counts-fit-requires c κs =
-    let bs = c .before .before .before .before .before .before .args .bytes .now in
-    let pre = c .before .before .before .before .before .before .pre in
+    let start = c .before .before .before .before .before .before in
+    let bs = start .args .bytes .now in
     let tally = c .before .before .tally in
-    (formed-long bs (pre .0), tally .ensures .0 .few, tally .ensures .1 .few)
+    (formed-long bs (start .pre .0), tally .ensures .0 .few, tally .ensures .1 .few)
 
 returns : tie.Need-returns
 returns c =
-    let bs = c .before .before .before .before .before .before .before .args .bytes .now in
-    let pre = c .before .before .before .before .before .before .before .pre in
+    let start = c .before .before .before .before .before .before .before in
+    let bs = start .args .bytes .now in
     let tally = c .before .before .before .tally in
-    c .counts-fit .ensures ∙ queues-said bs (pre .0) (pre .1) (tally .ensures .0) (tally .ensures .1)
+    c .counts-fit .ensures ∙ queues-said bs (start .pre .0) (start .pre .1) (tally .ensures .0) (tally .ensures .1)
 
 pub queues-fit-spec : {M : Type 1} → statement M
 queues-fit-spec = tie.close (tie.spec tally-requires counts-fit-requires returns)

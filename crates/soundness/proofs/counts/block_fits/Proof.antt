@@ -1,5 +1,8 @@
-use Prim.Native.Nat.{_+_, _-_, _≤_}
+-- Each turn has one semaphore more of the block tested: its squeezed count says enough, since few wait. Assumes nothing.
+use Prim.Native.Nat.{_+_, _-_, _<_, _≤_, ℕ}
 use native.Mathlib.Omega.{arith}
+use mathlib.Core.Bool.{Bool}
+use mathlib.Core.List.{List}
 use mathlib.Core.Path.{_∙_, _≡_, sym}
 use lib.ListN.{getD, length}
 use borrow.Author.Needs.{needs}
@@ -15,11 +18,22 @@ use Rattle.soundness.specs.Squeeze.{blockLimit}
 use Rattle.soundness.proofs.counts.block_fits.Statement.{statement}
 use Rattle.soundness.proofs.counts.block_fits.Tie as tie
 
+-- semaphore s goes with those counted in both tallies
+abbrev fits : List ℕ → List ℕ → List ℕ → ℕ → Bool
+fits bs many more s = semaphoreFits (semaphore (fromBytes bs) s) (getD many s 0 + getD more s 0)
+
 abbrev Inv-loop : tie.InvT-loop
-Inv-loop bytes x many more from ok₀ i₀ ok i = (i ≤ blockLimit) × (ok ≡ all i (λ i. semaphoreFits (semaphore (fromBytes bytes) (from + i)) (getD many (from + i) 0 + getD more (from + i) 0))) × (length bytes ≡ size) × (from + blockLimit ≤ semaphoreLimit)
+Inv-loop bytes x many more from ok₀ i₀ ok i = (i ≤ blockLimit) × (ok ≡ all i (λ j. fits bytes many more (from + j))) × (length bytes ≡ size) × (from + blockLimit ≤ semaphoreLimit)
 
 abbrev μ-loop : tie.MeasureT-loop
 μ-loop bytes x many more from ok₀ i₀ ok i = blockLimit - i
+
+-- the counts of both tallies are small
+few : (c : tie.Start Inv-loop μ-loop) (s : ℕ) → getD (c .args .many .now) s 0 + getD (c .args .more .now) s 0 < 128
+few c s =
+    let m = c .pre .3 s in
+    let n = c .pre .4 s in
+    omega arith
 
 loop-holds : tie.Need-loop-holds Inv-loop μ-loop
 loop-holds c = (search needs, sym (all-none _), search needs, search needs)
@@ -44,17 +58,11 @@ element-copy-out-count-fits-3 c = search needs
 
 add-count-fits-2 : tie.Need-add-count-fits-2 Inv-loop μ-loop
 add-count-fits-2 c =
-    let pre = c .before .before .before .before .before .before .before .pre in
-    let args = c .before .before .before .before .before .before .before .args in
-    let loop = c .before .before .before .before .before .loop in
-    let m = pre .3 (args .from + loop .i) in let n = pre .4 (args .from + loop .i) in record { fits = omega arith }
+    let l = few (c .before .before .before .before .before .before .before) (c .before .before .before .before .before .before .before .args .from + c .before .before .before .before .before .loop .i) in
+    record { fits = omega arith }
 
 count-fits-requires : tie.Need-count-fits-requires Inv-loop μ-loop
-count-fits-requires c κs =
-    let pre = c .before .before .before .before .before .before .before .pre in
-    let args = c .before .before .before .before .before .before .before .args in
-    let loop = c .before .before .before .before .before .loop in
-    let m = pre .3 (args .from + loop .i) in let n = pre .4 (args .from + loop .i) in omega arith
+count-fits-requires c κs = few (c .before .before .before .before .before .before .before) (c .before .before .before .before .before .before .before .args .from + c .before .before .before .before .before .loop .i)
 
 add-i : tie.Need-add-i Inv-loop μ-loop
 add-i c = search needs
@@ -64,16 +72,17 @@ loop-less c = search needs
 
 loop-again : tie.Need-loop-again Inv-loop μ-loop
 loop-again c =
-    let args = c .before .before .before .before .before .before .before .before .args in
+    let start = c .before .before .before .before .before .before .before .before in
+    let args = start .args in
     let bs = args .bytes .now in
-    let pre = c .before .before .before .before .before .before .before .before .pre in
     let loop = c .before .before .before .before .before .before .loop in
     let i = loop .i in
     let many = args .many .now in
     let more = args .more .now in
     let s = args .from + i in
-    let one : c .count-fits .result ≡ semaphoreFits (semaphore (fromBytes bs) s) (getD many s 0 + getD more s 0) = c .count-fits .ensures (countAt bs s) (pre .2 .said i (omega arith)) ∙ sym (rw (semaphore-said bs s (omega arith))) in
-    (search needs, all-next (λ i. semaphoreFits (semaphore (fromBytes bs) (args .from + i)) (getD many (args .from + i) 0 + getD more (args .from + i) 0)) i _ _ (loop .inv .1) one, search needs, search needs)
+    let said = c .count-fits .ensures (countAt bs s) (start .pre .2 .said i (omega arith)) in
+    let one : c .count-fits .result ≡ fits bs many more s = said ∙ sym (rw (semaphore-said bs s (omega arith))) in
+    (search needs, all-next (λ j. fits bs many more (args .from + j)) i _ _ (loop .inv .1) one, search needs, search needs)
 
 returns : tie.Need-returns Inv-loop μ-loop
 returns c =

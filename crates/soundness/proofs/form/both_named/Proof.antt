@@ -1,3 +1,4 @@
+-- The flag says that the states and the places below i are named. Assumes nothing.
 use Prim.Native.Nat.{_-_, _≤_}
 use native.Mathlib.Omega.{arith}
 use mathlib.Core.Bool.{_&&_}

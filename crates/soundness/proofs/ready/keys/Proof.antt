@@ -1,3 +1,4 @@
+-- The keys below i are made. Assumes nothing.
 use Prim.Native.Nat.{_-_, _<_, _≤_, ℕ}
 use native.Mathlib.Omega.{arith}
 use mathlib.Core.Path.{_≡_}

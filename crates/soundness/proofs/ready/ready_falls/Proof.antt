@@ -1,3 +1,4 @@
+-- What is left of the test from place i on, with the key before it, is the whole test. Assumes nothing.
 use Prim.Native.Nat.{_+_, _-_, _<_, _≤_, ℕ}
 use native.Mathlib.Omega.{arith}
 use mathlib.Core.Path.{_∙_, _≡_, ap, refl, sym}
@@ -26,30 +27,32 @@ shared-slice-read-p c = search needs
 
 cast-p : tie.Need-cast-p Inv-loop μ-loop
 cast-p c =
-    let bs = c .before .before .before .before .args .bytes .now in
-    let pre = c .before .before .before .before .pre in
+    let start = c .before .before .before .before in
+    let bs = start .args .bytes .now in
     let loop = c .before .before .loop in
-    let hp : getD bs (orderAt + loop .i) 0 < processLimit = pre .1 (loop .i) (omega arith) in search (needs, hp)
+    let hp : getD bs (orderAt + loop .i) 0 < processLimit = start .pre .1 (loop .i) (omega arith) in
+    search (needs, hp)
 
 element-copy-out-v : tie.Need-element-copy-out-v Inv-loop μ-loop
 element-copy-out-v c =
-    let bs = c .before .before .before .before .args .bytes .now in
-    let pre = c .before .before .before .before .pre in
+    let start = c .before .before .before .before in
+    let bs = start .args .bytes .now in
     let loop = c .before .before .loop in
-    let hp : getD bs (orderAt + loop .i) 0 < processLimit = pre .1 (loop .i) (omega arith) in omega arith
+    let hp : getD bs (orderAt + loop .i) 0 < processLimit = start .pre .1 (loop .i) (omega arith) in
+    omega arith
 
 returns : tie.Need-returns Inv-loop μ-loop
 returns c =
-    let args = c .before .before .before .before .before .before .args in
+    let start = c .before .before .before .before .before .before in
+    let args = start .args in
     let bs = args .bytes .now in
-    let pre = c .before .before .before .before .before .before .pre in
     let loop = c .before .before .before .before .loop in
     let i = loop .i in
-    let named = pre .1 in
+    let named = start .pre .1 in
     let p = getD bs (orderAt + i) 0 in
     let v = getD (args .k .now) p 0 in
     let hp : getD bs (orderAt + i) 0 < processLimit = named i (omega arith) in
-    let key = pre .2 p hp in
+    let key = start .pre .2 p hp in
     let stop = key-stop bs named i p (omega arith) refl (loop .last) v key (loop .inv .1) (c .if1 .taken) in
     sym (sym (left-all bs named (args .top - 1)) ∙ loop .inv .2 named ∙ stop)
 
@@ -64,16 +67,16 @@ loop-less c = search needs
 
 loop-again : tie.Need-loop-again Inv-loop μ-loop
 loop-again c =
-    let args = c .before .before .before .before .before .before .before .args in
+    let start = c .before .before .before .before .before .before .before in
+    let args = start .args in
     let bs = args .bytes .now in
-    let pre = c .before .before .before .before .before .before .before .pre in
     let loop = c .before .before .before .before .before .loop in
     let i = loop .i in
-    let named = pre .1 in
+    let named = start .pre .1 in
     let p = getD bs (orderAt + i) 0 in
     let v = getD (args .k .now) p 0 in
     let hp : getD bs (orderAt + i) 0 < processLimit = named i (omega arith) in
-    let key = pre .2 p hp in
+    let key = start .pre .2 p hp in
     let e = c .latest .ensures in (
       search needs,
       rw e (key-some bs named i p (omega arith) refl (loop .last) v key (loop .inv .1)),
@@ -83,10 +86,10 @@ loop-again c =
 
 returns-2 : tie.Need-returns-2 Inv-loop μ-loop
 returns-2 c =
-    let args = c .before .before .before .args in
+    let start = c .before .before .before in
+    let args = start .args in
     let bs = args .bytes .now in
-    let pre = c .before .before .before .pre in
-    sym (sym (left-all bs (pre .1) (args .top - 1)) ∙ c .before .loop .inv .2 (pre .1) ∙ left-none bs (pre .1) (c .before .loop .last - 1) (c .before .loop .i) (omega arith))
+    sym (sym (left-all bs (start .pre .1) (args .top - 1)) ∙ c .before .loop .inv .2 (start .pre .1) ∙ left-none bs (start .pre .1) (c .before .loop .last - 1) (c .before .loop .i) (omega arith))
 
 pub ready-falls-spec : {M : Type 1} → statement M
 ready-falls-spec =

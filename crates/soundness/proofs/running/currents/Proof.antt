@@ -1,3 +1,4 @@
+-- The sum so far is that of the slots below i. Assumes nothing.
 use Prim.Native.Nat.{_-_, _≤_}
 use native.Mathlib.Omega.{arith}
 use mathlib.Core.Logic.{⊎-elim}

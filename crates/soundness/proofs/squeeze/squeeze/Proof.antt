@@ -1,4 +1,4 @@
--- Each turn puts one count more, squeezed, behind those that stand: the word read is the count's, as a signed number.
+-- Each turn puts one count more, squeezed, behind those that stand: the word read is the count's, as a signed number. Assumes nothing.
 use Prim.Native.Nat.{_*_, _+_, _-_, _≤_}
 use native.Mathlib.Omega.{arith}
 use mathlib.Core.Path.{_≡_}

@@ -1,3 +1,4 @@
+-- Each turn counts one process more of either half, at the cell that its state byte names. Assumes nothing.
 use Prim.Native.Nat.{_+_, _-_, _<_, _≤_}
 use native.Mathlib.Nat.{zero-add}
 use native.Mathlib.Omega.{arith}
@@ -27,18 +28,19 @@ add-cell c = search needs
 
 shared-slice-read-cell : tie.Need-shared-slice-read-cell Inv-loop μ-loop
 shared-slice-read-cell c =
-    let bs = c .before .before .before .before .args .bytes .now in
-    let pre = c .before .before .before .before .pre in
-    let l = formed-long bs (pre .0) in omega arith
+    let start = c .before .before .before .before in
+    let bs = start .args .bytes .now in
+    let l = formed-long bs (start .pre .0) in
+    omega arith
 
 cell-requires : tie.Need-cell-requires Inv-loop μ-loop
 cell-requires c κs =
-    let bs = c .before .before .before .before .args .bytes .now in
-    let pre = c .before .before .before .before .pre in
+    let start = c .before .before .before .before in
+    let bs = start .args .bytes .now in
     let loop = c .before .before .loop in
     let i = loop .i in
     let h : i < processLimit = omega arith in
-    (search needs, formed-state bs (pre .0) i h)
+    (search needs, formed-state bs (start .pre .0) i h)
 
 element-copy-out-many : tie.Need-element-copy-out-many Inv-loop μ-loop
 element-copy-out-many c = search needs
@@ -46,7 +48,8 @@ element-copy-out-many c = search needs
 add-many : tie.Need-add-many Inv-loop μ-loop
 add-many c =
     let loop = c .before .before .before .before .loop in
-    let f = loop .inv .1 .few (c .before .cell .result) in record { fits = omega arith }
+    let f = loop .inv .1 .few (c .before .cell .result) in
+    record { fits = omega arith }
 
 element-write-many : tie.Need-element-write-many Inv-loop μ-loop
 element-write-many c = search needs
@@ -59,18 +62,19 @@ add-cell-3 c = search needs
 
 shared-slice-read-cell-2 : tie.Need-shared-slice-read-cell-2 Inv-loop μ-loop
 shared-slice-read-cell-2 c =
-    let bs = c .before .before .before .before .before .before .before .args .bytes .now in
-    let pre = c .before .before .before .before .before .before .before .pre in
-    let l = formed-long bs (pre .0) in omega arith
+    let start = c .before .before .before .before .before .before .before in
+    let bs = start .args .bytes .now in
+    let l = formed-long bs (start .pre .0) in
+    omega arith
 
 cell-requires-2 : tie.Need-cell-requires-2 Inv-loop μ-loop
 cell-requires-2 c κs =
-    let bs = c .before .before .before .before .before .before .before .args .bytes .now in
-    let pre = c .before .before .before .before .before .before .before .pre in
+    let start = c .before .before .before .before .before .before .before in
+    let bs = start .args .bytes .now in
     let loop = c .before .before .before .before .before .loop in
     let i = loop .i in
     let h : halfLimit + i < processLimit = omega arith in
-    (search needs, formed-state bs (pre .0) (halfLimit + i) h)
+    (search needs, formed-state bs (start .pre .0) (halfLimit + i) h)
 
 element-copy-out-more : tie.Need-element-copy-out-more Inv-loop μ-loop
 element-copy-out-more c = search needs
@@ -78,7 +82,8 @@ element-copy-out-more c = search needs
 add-more : tie.Need-add-more Inv-loop μ-loop
 add-more c =
     let loop = c .before .before .before .before .before .before .before .loop in
-    let f = loop .inv .2 .few (c .before .cell2 .result) in record { fits = omega arith }
+    let f = loop .inv .2 .few (c .before .cell2 .result) in
+    record { fits = omega arith }
 
 element-write-more : tie.Need-element-write-more Inv-loop μ-loop
 element-write-more c = search needs
@@ -97,8 +102,12 @@ loop-again c =
     let cell2 = c .before .cell2 in
     let i = loop .i in
     let h : i < processLimit = omega arith in
-    let many = tallied-next (fromBytes bs) 0 i (loop .many) (loop .inv .1) (cell .result) (cell .ensures .0) (rw (zero-add i) (waits-cell bs i i (cell .result) h (cell .ensures .1))) in
-    let more = tallied-next (fromBytes bs) halfLimit i (loop .more) (loop .inv .2) (cell2 .result) (cell2 .ensures .0) (waits-cell bs (halfLimit + i) i (cell2 .result) (omega arith) (cell2 .ensures .1)) in
+    let many =
+    tallied-next (fromBytes bs) 0 i (loop .many) (loop .inv .1) (cell .result) (cell .ensures .0)
+    (rw (zero-add i) (waits-cell bs i i (cell .result) h (cell .ensures .1))) in
+    let more =
+    tallied-next (fromBytes bs) halfLimit i (loop .more) (loop .inv .2) (cell2 .result) (cell2 .ensures .0)
+    (waits-cell bs (halfLimit + i) i (cell2 .result) (omega arith) (cell2 .ensures .1)) in
     (search needs, many, more, search needs)
 
 returns : tie.Need-returns Inv-loop μ-loop
