@@ -32,7 +32,10 @@ module _ (bs : List ℕ) (p : ℕ) (h : p < processLimit) where
   priority-said = ap (λ (x : Process). x .priority) (process-said bs p h)
 
 -- a test of the state is a test of the byte, if it is so for the four plain states and for any waiting one
-by-byte : (test : State → Bool) (k b : ℕ) → test (byteState 0) ≡ eqb 0 k → test (byteState 1) ≡ eqb 1 k → test (byteState 2) ≡ eqb 2 k → test (byteState 3) ≡ eqb 3 k → (4 ≤ b → test (Waiting (b - 4)) ≡ eqb b k) → test (byteState b) ≡ eqb b k
+abbrev Agrees : (State → Bool) → ℕ → ℕ → Type 0
+Agrees test k b = test (byteState b) ≡ eqb b k
+
+by-byte : (test : State → Bool) (k b : ℕ) → Agrees test k 0 → Agrees test k 1 → Agrees test k 2 → Agrees test k 3 → (4 ≤ b → test (Waiting (b - 4)) ≡ eqb b k) → Agrees test k b
 by-byte test k b e0 e1 e2 e3 e4 =
     either b 0 (λ e. rw e e0)
     (λ n0. either b 1 (λ e. rw e e1)
@@ -72,7 +75,9 @@ waits-cell bs p i k hp e s h = ap (waitsOn s) (state-said bs p hp) ∙ waits-byt
 
 -- well formed bytes name semaphores only
 pub names-all : (bs : List ℕ) → wellFormed bs ≡ true → all processLimit (λ p. namesSemaphore (stateOf (fromBytes bs) p)) ≡ true
-names-all bs wf = all-true processLimit (λ p. namesSemaphore (stateOf (fromBytes bs) p)) (λ p h. rw (state-said bs p h) (one (byteState (getD bs (statesAt + p) 0)) (state-back (getD bs (statesAt + p) 0) (formed-state bs wf p h) .1)))
+names-all bs wf =
+    all-true processLimit (λ p. namesSemaphore (stateOf (fromBytes bs) p))
+    (λ p h. let b = getD bs (statesAt + p) 0 in rw (state-said bs p h) (one (byteState b) (state-back b (formed-state bs wf p h) .1)))
   where
     one : (st : State) → Named st → namesSemaphore st ≡ true
     one Free n = refl

@@ -76,7 +76,11 @@ module _ (f : ℕ → ℕ → Bool) (m i : ℕ) (n : List ℕ) (so : (j : ℕ) �
   pub tally-more : (k : ℕ) → k < length n → ((j : ℕ) → j < m → f j i ≡ eqb j k) → (j : ℕ) → j < m → getD (set n k (getD n k 0 + 1)) j 0 ≡ total (i + 1) (λ p. if f j p then 1 else 0)
   tally-more k hk key j hj =
       either j k
-      (λ e. ap (λ (q : ℕ). getD (set n k (getD n k 0 + 1)) q 0) e ∙ getD-set-same n k (getD n k 0 + 1) 0 hk ∙ ap (λ (q : ℕ). getD n q 0 + 1) (sym e) ∙ sum-yes (f j) (λ p. 1) i (getD n j 0) (so j hj) (key j hj ∙ eq-eqb j k e))
+      (λ e.
+      ap (λ (q : ℕ). getD (set n k (getD n k 0 + 1)) q 0) e
+      ∙ getD-set-same n k (getD n k 0 + 1) 0 hk
+      ∙ ap (λ (q : ℕ). getD n q 0 + 1) (sym e)
+      ∙ sum-yes (f j) (λ p. 1) i (getD n j 0) (so j hj) (key j hj ∙ eq-eqb j k e))
       (λ d. getD-set-other n k j (getD n k 0 + 1) 0 d ∙ sum-no (f j) (λ p. 1) i (getD n j 0) (so j hj) (key j hj ∙ ne-eqb j k d))
 
 -- a tally before its first turn
@@ -84,12 +88,15 @@ pub none-tallied : (t : Tables) (from : ℕ) → Tallied t from 0 (replicate cel
 none-tallied t from =
     record {
       long = length-replicate {A = ℕ} cellLimit 0;
-      few = λ k. below? k cellLimit (λ h. rw (getD-replicate {A = ℕ} cellLimit k 0 0 h) (omega arith)) (λ h. rw (List·getD-eq-default {A = ℕ} (replicate cellLimit 0) 0 {n = k} (rw (length-replicate {A = ℕ} cellLimit 0) h)) (omega arith));
+      few = λ k. below? k cellLimit
+          (λ h. rw (getD-replicate {A = ℕ} cellLimit k 0 0 h) (omega arith))
+          (λ h. rw (List·getD-eq-default {A = ℕ} (replicate cellLimit 0) 0 {n = k} (rw (length-replicate {A = ℕ} cellLimit 0) h)) (omega arith));
       said = λ s h. getD-replicate {A = ℕ} cellLimit s 0 0 (omega arith) ∙ sym (total-none (λ p. if waitsOn s (stateOf t (from + p)) then 1 else 0));
     }
 
 -- and a turn of it
-pub tallied-next : (t : Tables) (from i : ℕ) (cells : List ℕ) → Tallied t from i cells → (k : ℕ) → k < cellLimit → ((s : ℕ) → s < semaphoreLimit → waitsOn s (stateOf t (from + i)) ≡ eqb s k) → Tallied t from (i + 1) (set cells k (getD cells k 0 + 1))
+pub tallied-next : (t : Tables) (from i : ℕ) (cells : List ℕ) → Tallied t from i cells → (k : ℕ) → k < cellLimit →
+    ((s : ℕ) → s < semaphoreLimit → waitsOn s (stateOf t (from + i)) ≡ eqb s k) → Tallied t from (i + 1) (set cells k (getD cells k 0 + 1))
 tallied-next t from i cells so k hk key =
     let l = so .long in
     let h : k < length cells = omega arith in

@@ -10,8 +10,9 @@ use Rattle.lists.specs.Numbers.{total}
 use Rattle.tables.specs.declared.State.{State}
 use Rattle.tables.specs.declared.Tables.{Tables}
 use Rattle.tables.specs.Limits.{processLimit, semaphoreLimit}
-use Rattle.tables.specs.Readers.{stateOf}
+use Rattle.tables.specs.Readers.{semaphore, stateOf}
 use Rattle.tables.specs.States.{waitsOn}
+use Rattle.tables.specs.Test.{semaphoreFits}
 use Rattle.layout.specs.Bytes.{waitingFrom}
 
 -- w over the numbers below n of the processes whose state passes the test
@@ -43,3 +44,7 @@ pub record Tallied (t : Tables) (from n : ℕ) (cells : List ℕ) : Type 0 where
   pub long : length cells ≡ cellLimit
   pub few : (k : ℕ) → getD cells k 0 ≤ n
   pub said : (s : ℕ) → s < semaphoreLimit → getD cells s 0 ≡ total n (λ p. if waitsOn s (stateOf t (from + p)) then 1 else 0)
+
+-- the count of semaphore s goes with those counted in both tallies
+abbrev pub countedFits : Tables → List ℕ → List ℕ → ℕ → Bool
+countedFits t many more s = semaphoreFits (semaphore t s) (getD many s 0 + getD more s 0)

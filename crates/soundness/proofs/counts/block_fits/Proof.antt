@@ -1,8 +1,6 @@
 -- Each turn has one semaphore more of the block tested: its squeezed count says enough, since few wait. Assumes nothing.
 use Prim.Native.Nat.{_+_, _-_, _<_, _≤_, ℕ}
 use native.Mathlib.Omega.{arith}
-use mathlib.Core.Bool.{Bool}
-use mathlib.Core.List.{List}
 use mathlib.Core.Path.{_∙_, _≡_, sym}
 use lib.ListN.{getD, length}
 use borrow.Author.Needs.{needs}
@@ -10,20 +8,15 @@ use Rattle.layout.specs.Bytes.{countAt, fromBytes}
 use Rattle.layout.specs.Offsets.{size}
 use Rattle.lists.specs.Numbers.{all}
 use Rattle.tables.specs.Limits.{semaphoreLimit}
-use Rattle.tables.specs.Readers.{semaphore}
-use Rattle.tables.specs.Test.{semaphoreFits}
 use Rattle.layout.proofs.Image.{semaphore-said}
 use Rattle.lists.proofs.NumberLaws.{all-next, all-none}
 use Rattle.soundness.specs.Squeeze.{blockLimit}
+use Rattle.soundness.specs.Tallies.{countedFits}
 use Rattle.soundness.proofs.counts.block_fits.Statement.{statement}
 use Rattle.soundness.proofs.counts.block_fits.Tie as tie
 
--- semaphore s goes with those counted in both tallies
-abbrev fits : List ℕ → List ℕ → List ℕ → ℕ → Bool
-fits bs many more s = semaphoreFits (semaphore (fromBytes bs) s) (getD many s 0 + getD more s 0)
-
 abbrev Inv-loop : tie.InvT-loop
-Inv-loop bytes x many more from ok₀ i₀ ok i = (i ≤ blockLimit) × (ok ≡ all i (λ j. fits bytes many more (from + j))) × (length bytes ≡ size) × (from + blockLimit ≤ semaphoreLimit)
+Inv-loop bytes x many more from ok₀ i₀ ok i = (i ≤ blockLimit) × (ok ≡ all i (λ j. countedFits (fromBytes bytes) many more (from + j))) × (length bytes ≡ size) × (from + blockLimit ≤ semaphoreLimit)
 
 abbrev μ-loop : tie.MeasureT-loop
 μ-loop bytes x many more from ok₀ i₀ ok i = blockLimit - i
@@ -58,11 +51,14 @@ element-copy-out-count-fits-3 c = search needs
 
 add-count-fits-2 : tie.Need-add-count-fits-2 Inv-loop μ-loop
 add-count-fits-2 c =
-    let l = few (c .before .before .before .before .before .before .before) (c .before .before .before .before .before .before .before .args .from + c .before .before .before .before .before .loop .i) in
+    let start = c .before .before .before .before .before .before .before in
+    let l = few start (start .args .from + c .before .before .before .before .before .loop .i) in
     record { fits = omega arith }
 
 count-fits-requires : tie.Need-count-fits-requires Inv-loop μ-loop
-count-fits-requires c κs = few (c .before .before .before .before .before .before .before) (c .before .before .before .before .before .before .before .args .from + c .before .before .before .before .before .loop .i)
+count-fits-requires c κs =
+    let start = c .before .before .before .before .before .before .before in
+    few start (start .args .from + c .before .before .before .before .before .loop .i)
 
 add-i : tie.Need-add-i Inv-loop μ-loop
 add-i c = search needs
@@ -81,8 +77,8 @@ loop-again c =
     let more = args .more .now in
     let s = args .from + i in
     let said = c .count-fits .ensures (countAt bs s) (start .pre .2 .said i (omega arith)) in
-    let one : c .count-fits .result ≡ fits bs many more s = said ∙ sym (rw (semaphore-said bs s (omega arith))) in
-    (search needs, all-next (λ j. fits bs many more (args .from + j)) i _ _ (loop .inv .1) one, search needs, search needs)
+    let one : c .count-fits .result ≡ countedFits (fromBytes bs) many more s = said ∙ sym (rw (semaphore-said bs s (omega arith))) in
+    (search needs, all-next (λ j. countedFits (fromBytes bs) many more (args .from + j)) i _ _ (loop .inv .1) one, search needs, search needs)
 
 returns : tie.Need-returns Inv-loop μ-loop
 returns c =

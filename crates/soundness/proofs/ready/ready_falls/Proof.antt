@@ -11,13 +11,13 @@ use Rattle.soundness.proofs.FallingBytes.{key-on, key-some, key-stop, l
 use Rattle.soundness.proofs.ready.ready_falls.Tie as tie
 
 abbrev Inv-loop : tie.InvT-loop
-Inv-loop bytes k top last₀ i₀ last i = (i ≤ processLimit) × (0 < last) × (((named : (j : ℕ) → j < processLimit → getD bytes (orderAt + j) 0 < processLimit) → left bytes named (top - 1) 0 ≡ left bytes named (last - 1) i)) × (length bytes ≡ size)
+Inv-loop bytes k top last₀ i₀ last i = (i ≤ processLimit) × (0 < last) × (left bytes (top - 1) 0 ≡ left bytes (last - 1) i) × (length bytes ≡ size)
 
 abbrev μ-loop : tie.MeasureT-loop
 μ-loop bytes k top last₀ i₀ last i = processLimit - i
 
 loop-holds : tie.Need-loop-holds Inv-loop μ-loop
-loop-holds c = (search needs, search needs, (λ named. refl), search needs)
+loop-holds c = (search needs, search needs, refl, search needs)
 
 add-p : tie.Need-add-p Inv-loop μ-loop
 add-p c = search needs
@@ -54,7 +54,7 @@ returns c =
     let hp : getD bs (orderAt + i) 0 < processLimit = named i (omega arith) in
     let key = start .pre .2 p hp in
     let stop = key-stop bs named i p (omega arith) refl (loop .last) v key (loop .inv .1) (c .if1 .taken) in
-    sym (sym (left-all bs named (args .top - 1)) ∙ loop .inv .2 named ∙ stop)
+    sym (sym (left-all bs (args .top - 1)) ∙ loop .inv .2 ∙ stop)
 
 latest-requires : tie.Need-latest-requires Inv-loop μ-loop
 latest-requires c κs = search needs
@@ -80,7 +80,7 @@ loop-again c =
     let e = c .latest .ensures in (
       search needs,
       rw e (key-some bs named i p (omega arith) refl (loop .last) v key (loop .inv .1)),
-      (λ named. loop .inv .2 named ∙ key-on bs named i p (omega arith) refl (loop .last) v key (loop .inv .1) (c .before .if1 .left) ∙ ap (λ (n : ℕ). left bs named (n - 1) (i + 1)) (sym e)),
+      loop .inv .2 ∙ key-on bs named i p (omega arith) refl (loop .last) v key (loop .inv .1) (c .before .if1 .left) ∙ ap (λ (n : ℕ). left bs (n - 1) (i + 1)) (sym e),
       search needs,
     )
 
@@ -89,7 +89,7 @@ returns-2 c =
     let start = c .before .before .before in
     let args = start .args in
     let bs = args .bytes .now in
-    sym (sym (left-all bs (start .pre .1) (args .top - 1)) ∙ c .before .loop .inv .2 (start .pre .1) ∙ left-none bs (start .pre .1) (c .before .loop .last - 1) (c .before .loop .i) (omega arith))
+    sym (sym (left-all bs (args .top - 1)) ∙ c .before .loop .inv .2 ∙ left-none bs (c .before .loop .last - 1) (c .before .loop .i) (omega arith))
 
 pub ready-falls-spec : {M : Type 1} → statement M
 ready-falls-spec =

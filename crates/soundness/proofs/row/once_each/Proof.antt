@@ -1,7 +1,7 @@
 -- A bit for each number that stands in the row so far: all bits, and each of the 32 stands there once. Assumes nothing.
 use Prim.Native.Nat.{_+_, _-_, _<_, _^_, _≤_, ℕ}
 use native.Mathlib.Omega.{arith}
-use mathlib.Core.Bool.{_||_, false}
+use mathlib.Core.Bool.{Bool, _||_, false}
 use mathlib.Core.List.{List}
 use mathlib.Core.Path.{_∙_, _≡_, ap, sym}
 use lib.Bits.{bitOr}
@@ -66,13 +66,14 @@ loop-again c =
     let p = getD bs (orderAt + i) 0 in
     let hp : p < processLimit = start .pre .1 i (omega arith) in
     let o = fromBytes bs .order in
+    let f : ℕ → ℕ → Bool = λ n q. ltb 0 (times q (take n o)) in
     let here : p ≡ getD o i 0 = sym (place-said bs i (omega arith)) in
     let l : i < length o = rw (order-long bs) (omega arith) in (
       search needs,
       ap (bitOr (loop .seen)) (shifted p hp)
           ∙ ap (λ (k : ℕ). bitOr k (2 ^ p)) (loop .inv .1)
-          ∙ mask-or processLimit (λ q. ltb 0 (times q (take i o))) p hp
-          ∙ mask-ext processLimit (λ q. ltb 0 (times q (take i o)) || eqb q p) (λ q. ltb 0 (times q (take (i + 1) o))) (λ q h. ap (λ (k : ℕ). ltb 0 (times q (take i o)) || eqb q k) here ∙ among-next o i q l),
+          ∙ mask-or processLimit (f i) p hp
+          ∙ mask-ext processLimit (λ q. f i q || eqb q p) (f (i + 1)) (λ q h. ap (λ (k : ℕ). f i q || eqb q k) here ∙ among-next o i q l),
       search needs,
     )
 
