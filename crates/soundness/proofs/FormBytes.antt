@@ -2,7 +2,7 @@
 use Prim.Native.Nat.{suc, zero, ℕ}
 use mathlib.Core.Bool.{Bool, _&&_, false, true}
 use mathlib.Core.List.{List}
-use mathlib.Core.Path.{_∙_, _≡_, ap, refl}
+use mathlib.Core.Path.{_≡_, refl}
 use Rattle.layout.specs.Bytes.{flagPlain, placeNamed, stateNamed}
 use Rattle.lists.specs.Numbers.{all}
 use Rattle.tables.specs.Limits.{processLimit, semaphoreLimit}
@@ -25,5 +25,15 @@ unfolding all
 all-both zero f g = refl
 all-both (suc n) f g = rw (all-both n f g) (and-mix (all n f) (all n g) (f n) (g n))
 
-pub form-said : (bs : List ℕ) → (all processLimit (λ i. stateNamed bs i && placeNamed bs i) && all semaphoreLimit (flagPlain bs)) ≡ (all processLimit (stateNamed bs) && (all semaphoreLimit (flagPlain bs) && all processLimit (placeNamed bs)))
-form-said bs = ap (λ (b : Bool). b && all semaphoreLimit (flagPlain bs)) (all-both processLimit (stateNamed bs) (placeNamed bs)) ∙ and-last (all processLimit (stateNamed bs)) (all processLimit (placeNamed bs)) (all semaphoreLimit (flagPlain bs))
+module _ (bs : List ℕ) where
+  abbrev states : Bool
+  states = all processLimit (stateNamed bs)
+
+  abbrev flags : Bool
+  flags = all semaphoreLimit (flagPlain bs)
+
+  abbrev places : Bool
+  places = all processLimit (placeNamed bs)
+
+  pub form-said : (all processLimit (λ i. stateNamed bs i && placeNamed bs i) && flags) ≡ (states && (flags && places))
+  form-said = rw (all-both processLimit (stateNamed bs) (placeNamed bs)) (and-last states places flags)

@@ -7,15 +7,15 @@ use mathlib.Core.Path.{_∙_, _≡_, ap, refl, sym}
 use lib.Dec.{eqb, ltb}
 use lib.ListN.{getD}
 use borrow.Author.Tests.{le-ltb, lt-ltb}
-use Rattle.layout.specs.Bytes.{byteState, fromBytes}
-use Rattle.layout.specs.Offsets.{nextProcessAt, nextSemaphoreAt, prioritiesAt}
+use Rattle.layout.specs.Bytes.{fromBytes, processAt}
+use Rattle.layout.specs.Offsets.{nextProcessAt, nextSemaphoreAt}
 use Rattle.lists.specs.Numbers.{all}
 use Rattle.tables.specs.Limits.{processLimit, semaphoreLimit}
 use Rattle.tables.specs.Readers.{process}
 use Rattle.tables.specs.Test.{nullFits, onceEach, slotFits}
 use Rattle.tables.specs.declared.Tables.{Tables}
+use Rattle.layout.proofs.Image.{process-said}
 use Rattle.soundness.specs.Laid.{laidClauses}
-use Rattle.soundness.proofs.StateBytes.{slot-said}
 
 module _ (bs : List ℕ) where
   abbrev t : Tables
@@ -39,12 +39,12 @@ module _ (bs : List ℕ) where
     pub far-process : processLimit ≤ getD bs nextProcessAt 0 → false ≡ laidClauses t
     far-process h = sym (rw (first, next-process-said, le-ltb (getD bs nextProcessAt 0) processLimit h))
 
-    module _ (h2 : getD bs nextProcessAt 0 < processLimit) (b : Bool) (null : b ≡ nullFits (record { state = byteState (getD bs 0 0); priority = getD bs prioritiesAt 0 })) where
+    module _ (h2 : getD bs nextProcessAt 0 < processLimit) (b : Bool) (null : b ≡ nullFits (processAt bs 0)) where
       second : ltb (t .«next_process») processLimit ≡ true
       second = rw next-process-said (lt-ltb (getD bs nextProcessAt 0) processLimit h2)
 
       third : nullFits (process t 0) ≡ b
-      third = ap nullFits (slot-said bs 0 (omega arith)) ∙ sym null
+      third = ap nullFits (process-said bs 0 (omega arith)) ∙ sym null
 
       pub null-wrong : b ≡ false → false ≡ laidClauses t
       null-wrong h = sym (rw (first, second, third ∙ h))

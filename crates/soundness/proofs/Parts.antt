@@ -24,7 +24,7 @@ use Rattle.lists.proofs.NumberLaws.{all-at, all-ext}
 use Rattle.lists.proofs.Rows.{total-ext}
 use Rattle.tables.proofs.Lines.{current-inside, current-sum, line-many}
 use Rattle.soundness.specs.Laid.{laidClauses}
-use Rattle.soundness.specs.Tallies.{Tallied, halfLimit, manyOf, sumOf}
+use Rattle.soundness.specs.Tallies.{Tallied, countedFits, halfLimit, manyOf, sumOf}
 use Rattle.soundness.proofs.StateBytes.{names-all, priority-said}
 use Rattle.soundness.proofs.Tally.{total-join}
 
@@ -43,7 +43,8 @@ slot-small false n h = leb-true n priorityLimit (both (ltb 0 n) _ h .1)
 halves : (t : Tables) (a b : List ℕ) → Tallied t 0 halfLimit a → Tallied t halfLimit halfLimit b → (s : ℕ) → s < semaphoreLimit → getD a s 0 + getD b s 0 ≡ manyOf t (waitsOn s)
 halves t a b x y s h =
     let w : ℕ → ℕ = λ p. if waitsOn s (stateOf t p) then 1 else 0 in
-    rw (x .said s h, y .said s h) (ap (λ (n : ℕ). n + total halfLimit (λ p. w (halfLimit + p))) (total-ext halfLimit (λ p. w (0 + p)) w (λ p k. ap w (zero-add p))) ∙ total-join w halfLimit halfLimit)
+    rw (x .said s h, y .said s h)
+    (ap (λ (n : ℕ). n + total halfLimit (λ p. w (halfLimit + p))) (total-ext halfLimit (λ p. w (0 + p)) w (λ p k. ap w (zero-add p))) ∙ total-join w halfLimit halfLimit)
 
 module _ (bs : List ℕ) (wf : wellFormed bs ≡ true) where
   abbrev t : Tables
@@ -57,7 +58,8 @@ module _ (bs : List ℕ) (wf : wellFormed bs ≡ true) where
   unfolding soundNow
   opened =
       rw (shaped-said, names-all bs wf, and-true (semaphoresFit t))
-      (and-group (ltb (t .«next_semaphore») semaphoreLimit) (ltb (t .«next_process») processLimit) (nullFits (process t 0)) (all processLimit (λ p. eqb p 0 || slotFits (process t p))) (onceEach (t .order))
+      (and-group (ltb (t .«next_semaphore») semaphoreLimit) (ltb (t .«next_process») processLimit) (nullFits (process t 0))
+      (all processLimit (λ p. eqb p 0 || slotFits (process t p))) (onceEach (t .order))
       (eqb (length (currents t)) 1 && (readyFalls t && semaphoresFit t)))
 
   pub unlaid : laidClauses t ≡ false → soundNow t ≡ false
@@ -80,16 +82,23 @@ module _ (bs : List ℕ) (wf : wellFormed bs ≡ true) where
     priority-small p h =
         let said = priority-said bs p h in
         either p 0
-        (λ e. let z : priorityOf t p ≡ 0 = rw e (eqb-true (priorityOf t 0) 0 (both (isCurrent (stateOf t 0) || isReady (stateOf t 0)) _ (slots .0) .1)) in omega arith)
-        (λ d. let f : slotFits (process t p) ≡ true = rw (ne-eqb p 0 d) at (all-at (λ p. eqb p 0 || slotFits (process t p)) processLimit p (slots .1) h) in let l = slot-small (isFree (stateOf t p)) (priorityOf t p) f in omega arith)
+        (λ e.
+        let z : priorityOf t p ≡ 0 = rw e (eqb-true (priorityOf t 0) 0 (both (isCurrent (stateOf t 0) || isReady (stateOf t 0)) _ (slots .0) .1)) in
+        omega arith)
+        (λ d.
+        let f : slotFits (process t p) ≡ true = rw (ne-eqb p 0 d) at (all-at (λ p. eqb p 0 || slotFits (process t p)) processLimit p (slots .1) h) in
+        let l = slot-small (isFree (stateOf t p)) (priorityOf t p) f in
+        omega arith)
 
     many-said : (test : State → Bool) → length (line t test) ≡ manyOf t test
     many-said test = line-many t (order-long bs) row test
 
     -- each count goes with its queue, by the tallies of both halves
-    pub queues-said : {many more : List ℕ} → Tallied t 0 halfLimit many → Tallied t halfLimit halfLimit more → all semaphoreLimit (λ s. semaphoreFits (semaphore t s) (getD many s 0 + getD more s 0)) ≡ semaphoresFit t
+    pub queues-said : {many more : List ℕ} → Tallied t 0 halfLimit many → Tallied t halfLimit halfLimit more → all semaphoreLimit (countedFits t many more) ≡ semaphoresFit t
     unfolding semaphoresFit
-    queues-said {many} {more} x y = all-ext semaphoreLimit (λ s. semaphoreFits (semaphore t s) (getD many s 0 + getD more s 0)) (λ s. semaphoreFits (semaphore t s) (length (queue t s))) (λ s k. ap (semaphoreFits (semaphore t s)) (halves t many more x y s k ∙ sym (many-said (waitsOn s))))
+    queues-said {many} {more} x y =
+        all-ext semaphoreLimit (countedFits t many more) (λ s. semaphoreFits (semaphore t s) (length (queue t s)))
+        (λ s k. ap (semaphoreFits (semaphore t s)) (halves t many more x y s k ∙ sym (many-said (waitsOn s))))
 
     pub not-one : (n : ℕ) → n ≡ manyOf t isCurrent → (n ≡ 1 → ⊥) → soundNow t ≡ false
     not-one n e h = opened ∙ rw (laid, ne-eqb (length (currents t)) 1 (λ k. h (e ∙ sym (many-said isCurrent) ∙ k)))

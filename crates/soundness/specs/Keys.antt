@@ -4,7 +4,7 @@ use mathlib.Core.List.{List}
 use lib.Dec.{eqb}
 use lib.ListN.{getD}
 use Rattle.lists.specs.Lists.{if_then_else_}
-use Rattle.layout.specs.Offsets.{prioritiesAt}
+use Rattle.layout.specs.Offsets.{prioritiesAt, statesAt}
 
 -- a ready process as its priority and one, any other as 0
 abbrev pub keyFrom : ℕ → ℕ → ℕ
@@ -12,7 +12,7 @@ keyFrom state priority = if eqb state 2 then priority + 1 else 0
 
 -- that of process p in the bytes
 abbrev pub keyOf : List ℕ → ℕ → ℕ
-keyOf bs p = keyFrom (getD bs p 0) (getD bs (prioritiesAt + p) 0)
+keyOf bs p = keyFrom (getD bs (statesAt + p) 0) (getD bs (prioritiesAt + p) 0)
 
 -- the last key that was not 0
 abbrev pub latestOf : ℕ → ℕ → ℕ

@@ -13,6 +13,7 @@ use crate::waiters::tally;
 use layout::offsets::NEXT_PROCESS;
 use layout::offsets::NEXT_SEMAPHORE;
 use layout::offsets::PRIORITIES;
+use layout::offsets::STATES;
 use tables::Tables;
 ghost use mathlib.Core.Path.{_≡_};
 ghost use mathlib.Core.Bool.{true};
@@ -32,7 +33,7 @@ fn laid(bytes: &[u8]) -> bool
     if bytes[NEXT_PROCESS] >= Tables::PROCESSES as u8 {
         return false;
     }
-    if !null_fits(bytes[0], bytes[PRIORITIES]) {
+    if !null_fits(bytes[STATES], bytes[PRIORITIES]) {
         return false;
     }
     if !slots_fit(bytes) {

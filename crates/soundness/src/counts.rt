@@ -11,12 +11,11 @@ ghost use lib.ListN.{length, getD};
 ghost use lib.IntN.{ℤ};
 ghost use Rattle.lists.specs.Numbers.{all};
 ghost use Rattle.tables.specs.Limits.{semaphoreLimit};
-ghost use Rattle.tables.specs.Readers.{semaphore};
-ghost use Rattle.tables.specs.Test.{countFits, semaphoreFits};
+ghost use Rattle.tables.specs.Test.{countFits};
 ghost use Rattle.layout.specs.Offsets.{size};
 ghost use Rattle.layout.specs.Bytes.{fromBytes};
 ghost use Rattle.soundness.specs.Squeeze.{Squeezed, blockLimit, claimed, squeezed};
-ghost use Rattle.soundness.specs.Tallies.{halfLimit};
+ghost use Rattle.soundness.specs.Tallies.{countedFits, halfLimit};
 
 // A count of 0, squeezed.
 const ZERO: u8 = 128;
@@ -51,7 +50,7 @@ fn block_fits(
     from: usize,
 ) -> bool
     requires { ⌜ (length (now bytes) ≡ size) × (from + blockLimit ≤ semaphoreLimit) × Squeezed (now bytes) from blockLimit (now x) × ((s : ℕ) → getD (now many) s 0 ≤ halfLimit) × ((s : ℕ) → getD (now more) s 0 ≤ halfLimit) ⌝ }
-    ensures { λ r. ⌜ r ≡ all blockLimit (λ i. semaphoreFits (semaphore (fromBytes (now (bytes .entry))) (from + i)) (getD (now (many .entry)) (from + i) 0 + getD (now (more .entry)) (from + i) 0)) ⌝ }
+    ensures { λ r. ⌜ r ≡ all blockLimit (λ i. countedFits (fromBytes (now (bytes .entry))) (now (many .entry)) (now (more .entry)) (from + i)) ⌝ }
 {
     let mut ok = true;
     for i in 0..BLOCK {
@@ -64,7 +63,7 @@ fn block_fits(
 // Two blocks that overlap leave no tail to be done one at a time.
 pub fn counts_fit(bytes: &[u8], many: &[u8; CELLS], more: &[u8; CELLS]) -> bool
     requires { ⌜ (length (now bytes) ≡ size) × ((s : ℕ) → getD (now many) s 0 ≤ halfLimit) × ((s : ℕ) → getD (now more) s 0 ≤ halfLimit) ⌝ }
-    ensures { λ r. ⌜ r ≡ all semaphoreLimit (λ s. semaphoreFits (semaphore (fromBytes (now (bytes .entry))) s) (getD (now (many .entry)) s 0 + getD (now (more .entry)) s 0)) ⌝ }
+    ensures { λ r. ⌜ r ≡ all semaphoreLimit (countedFits (fromBytes (now (bytes .entry))) (now (many .entry)) (now (more .entry))) ⌝ }
 {
     let x = smalls(bytes, 0);
     let y = smalls(bytes, SECOND);

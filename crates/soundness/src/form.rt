@@ -1,6 +1,7 @@
 // Whether the bytes say anything at all.
 use layout::offsets::ORDER;
 use layout::offsets::SIZE;
+use layout::offsets::STATES;
 use layout::offsets::USED;
 use layout::state::WAITING;
 use tables::Tables;
@@ -20,7 +21,7 @@ fn both_named(bytes: &[u8]) -> bool
     let mut ok = true;
     for i in 0..Tables::PROCESSES {
         ok = ok
-            & ((bytes[i] < WAITING + Tables::SEMAPHORES as u8)
+            & ((bytes[STATES + i] < WAITING + Tables::SEMAPHORES as u8)
                 & (bytes[ORDER + i] < Tables::PROCESSES as u8));
     }
     ok

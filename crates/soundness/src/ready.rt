@@ -1,6 +1,7 @@
 // Whether the ready list falls.
 use layout::offsets::ORDER;
 use layout::offsets::PRIORITIES;
+use layout::offsets::STATES;
 use layout::state::READY;
 use tables::Tables;
 ghost use mathlib.Core.Path.{_≡_};
@@ -31,7 +32,7 @@ pub fn keys(bytes: &[u8]) -> [u8; Tables::PROCESSES]
 {
     let mut k = [0u8; Tables::PROCESSES];
     for i in 0..Tables::PROCESSES {
-        k[i] = key(bytes[i], bytes[PRIORITIES + i]);
+        k[i] = key(bytes[STATES + i], bytes[PRIORITIES + i]);
     }
     k
 }

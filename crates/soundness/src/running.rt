@@ -1,4 +1,5 @@
 // Who runs.
+use layout::offsets::STATES;
 use layout::state::CURRENT;
 use tables::Tables;
 ghost use mathlib.Core.Path.{_≡_};
@@ -15,7 +16,7 @@ pub fn currents(bytes: &[u8]) -> u8
 {
     let mut many = 0u8;
     for i in 0..Tables::PROCESSES {
-        if bytes[i] == CURRENT {
+        if bytes[STATES + i] == CURRENT {
             many = many + 1;
         }
     }
@@ -29,7 +30,7 @@ pub fn current(bytes: &[u8]) -> u16
 {
     let mut sum = 0u16;
     for i in 0..Tables::PROCESSES {
-        if bytes[i] == CURRENT {
+        if bytes[STATES + i] == CURRENT {
             sum = sum + i as u16;
         }
     }

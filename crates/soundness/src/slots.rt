@@ -1,5 +1,6 @@
 // Whether each slot's priority fits its state.
 use layout::offsets::PRIORITIES;
+use layout::offsets::STATES;
 use layout::state::CURRENT;
 use layout::state::FREE;
 use layout::state::READY;
@@ -37,7 +38,7 @@ pub fn slots_fit(bytes: &[u8]) -> bool
 {
     let mut ok = true;
     for i in 0..Tables::PROCESSES {
-        ok = ok & ((i == 0) | slot_fits(bytes[i], bytes[PRIORITIES + i]));
+        ok = ok & ((i == 0) | slot_fits(bytes[STATES + i], bytes[PRIORITIES + i]));
     }
     ok
 }

@@ -1,14 +1,13 @@
 // How many wait on each semaphore.
+use layout::offsets::STATES;
 use layout::state::WAITING;
 use tables::Tables;
 ghost use mathlib.Core.Path.{_≡_};
 ghost use mathlib.Core.Bool.{true};
-ghost use Prim.Native.Nat.{_+_, _<_, _-_};
-ghost use lib.Dec.{ltb};
-ghost use Rattle.lists.specs.Lists.{if_then_else_};
+ghost use Prim.Native.Nat.{_+_, _<_};
 ghost use Rattle.tables.specs.Limits.{semaphoreLimit};
-ghost use Rattle.layout.specs.Bytes.{fromBytes, wellFormed};
-ghost use Rattle.soundness.specs.Tallies.{Tallied, cellLimit, halfLimit};
+ghost use Rattle.layout.specs.Bytes.{fromBytes, waitingFrom, wellFormed};
+ghost use Rattle.soundness.specs.Tallies.{Tallied, cellLimit, cellOf, halfLimit};
 
 // Processes that a tally is of: two tallies, so that many waiters on one semaphore don't all wait for each other.
 const HALF: usize = Tables::PROCESSES / 2;
@@ -18,8 +17,8 @@ pub const CELLS: usize = Tables::SEMAPHORES + HALF;
 
 // Where process i of a tally adds one: at its semaphore, or at its spare cell, so that there is no branch to guess wrong.
 fn cell(i: usize, state: u8) -> usize
-    requires { ⌜ (i < halfLimit) × (state < 4 + semaphoreLimit) ⌝ }
-    ensures { λ r. ⌜ (r < cellLimit) × (r ≡ (if ltb state 4 then semaphoreLimit + i else (state - 4))) ⌝ }
+    requires { ⌜ (i < halfLimit) × (state < waitingFrom + semaphoreLimit) ⌝ }
+    ensures { λ r. ⌜ (r < cellLimit) × (r ≡ cellOf i state) ⌝ }
 {
     if state < WAITING {
         return Tables::SEMAPHORES + i;
@@ -33,9 +32,9 @@ pub fn tally(many: &mut [u8; CELLS], more: &mut [u8; CELLS], bytes: &[u8])
     ensures { λ _. ⌜ Tallied (fromBytes (now (bytes .entry))) 0 halfLimit (now (many .exit)) × Tallied (fromBytes (now (bytes .entry))) halfLimit halfLimit (now (more .exit)) ⌝ }
 {
     for i in 0..HALF {
-        let s = cell(i, bytes[i]);
+        let s = cell(i, bytes[STATES + i]);
         many[s] = many[s] + 1;
-        let r = cell(i, bytes[HALF + i]);
+        let r = cell(i, bytes[STATES + (HALF + i)]);
         more[r] = more[r] + 1;
     }
 }

@@ -22,8 +22,10 @@ fields-requires-2 c κs = search needs
 
 returns : tie.Need-returns
 returns c =
-    let f : SFits w32 (c .before .before .answer .given .0 .0) = search needs in
-    rw (c .before .before .answer .given .1) (c .fields .ensures ∙ ap (λ (z : ℤ). joined 0 (ofZ w32 z) (c .before .before .before .before .args .process)) (toZ-ofZ w32 (c .before .before .answer .given .0 .0) f))
+    let args = c .before .before .before .before .args in
+    let answer = c .before .before .answer in
+    let f : SFits w32 (answer .given .0 .0) = search needs in
+    rw (answer .given .1) (c .fields .ensures ∙ ap (λ (z : ℤ). joined 0 (ofZ w32 z) (args .process)) (toZ-ofZ w32 (answer .given .0 .0) f))
 
 returns-2 : tie.Need-returns-2
 returns-2 c = rw (c .before .before .answer2 .given .1) (c .fields2 .ensures)

@@ -26,15 +26,21 @@ slice-write-tables : tie.Need-slice-write-tables
 slice-write-tables c = search needs
 
 slice-write-tables-2 : tie.Need-slice-write-tables-2
-slice-write-tables-2 c = let l : length (c .before .before .put-row .last .0) ≡ size = c .before .before .put-row .ensures .long in simp length-set (omega arith)
+slice-write-tables-2 c =
+    let put-row = c .before .before .put-row in
+    let l : length (put-row .last .0) ≡ size = put-row .ensures .long in simp length-set (omega arith)
 
 same-length : tie.Need-same-length
-same-length c = let l : length (c .before .before .put-row .last .0) ≡ size = c .before .before .put-row .ensures .long in simp length-set (l ∙ sym (c .before .before .before .before .before .before .before .before .if1 .left))
+same-length c =
+    let if1 = c .before .before .before .before .before .before .before .before .if1 in
+    let put-row = c .before .before .put-row in
+    let l : length (put-row .last .0) ≡ size = put-row .ensures .long in simp length-set (l ∙ sym (if1 .left))
 
 returns-2 : tie.Need-returns-2
 unfolding boot bootAnswer booted
 returns-2 c =
-    let e = eq-eqb _ size (c .before .before .before .before .before .before .before .before .if1 .left) in
+    let if1 = c .before .before .before .before .before .before .before .before .if1 in
+    let e = eq-eqb _ size (if1 .left) in
     let whole = begun-all boot _ _ refl (begun-next boot nextProcessAt _ 1 (begun-next boot nextSemaphoreAt _ 0 (c .before .before .put-row .ensures) (omega arith) refl) (omega arith) refl) in
     (sym (rw e), whole ∙ sym (rw e))
 

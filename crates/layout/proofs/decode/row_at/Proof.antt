@@ -36,16 +36,19 @@ loop-less c = search needs
 
 loop-again : tie.Need-loop-again Inv-loop μ-loop
 loop-again c =
-    let bs = c .before .before .before .args .bytes .now in
-    let k = c .before .before .before .args .k in
-    let i = c .before .before .loop .i in
-    let inv = c .before .before .loop .inv in
-    (search needs, simp length-set (inv .1), listed-next (λ (j : ℕ). getD bs (k + j) 0) processLimit (c .before .before .loop .row) (inv .1) i 0 _ (inv .2) (omega arith) refl, search needs)
+    let args = c .before .before .before .args in
+    let bs = args .bytes .now in
+    let loop = c .before .before .loop in
+    let i = loop .i in
+    let k = args .k in
+    let inv = loop .inv in
+    (search needs, simp length-set (inv .1), listed-next (λ (j : ℕ). getD bs (k + j) 0) processLimit (loop .row) (inv .1) i 0 _ (inv .2) (omega arith) refl, search needs)
 
 returns : tie.Need-returns Inv-loop μ-loop
 returns c =
-    let bs = c .before .before .args .bytes .now in
-    let k = c .before .before .args .k in
+    let args = c .before .before .args in
+    let bs = args .bytes .now in
+    let k = args .k in
     let inv = c .before .loop .inv in
     listed-done (λ (j : ℕ). getD bs (k + j) 0) processLimit (c .before .loop .row) (inv .1) (c .before .loop .i) (omega arith) (inv .2)
 

@@ -40,9 +40,10 @@ loop-less c = search needs
 loop-again : tie.Need-loop-again Inv-loop μ-loop
 loop-again c =
     let bs = c .before .before .before .before .args .bytes .now in
-    let i = c .before .before .loop .i in
-    let inv = c .before .before .loop .inv in
-    (search needs, simp length-set (inv .1), listed-next (semaphoreAt bs) semaphoreLimit (c .before .before .loop .entries) (inv .1) i freeSemaphore _ (inv .2) (omega arith) (c .semaphore-at .ensures), search needs)
+    let loop = c .before .before .loop in
+    let i = loop .i in
+    let inv = loop .inv in
+    (search needs, simp length-set (inv .1), listed-next (semaphoreAt bs) semaphoreLimit (loop .entries) (inv .1) i freeSemaphore _ (inv .2) (omega arith) (c .semaphore-at .ensures), search needs)
 
 returns : tie.Need-returns Inv-loop μ-loop
 returns c =

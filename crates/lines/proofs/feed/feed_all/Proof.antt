@@ -39,14 +39,17 @@ feed-one-requires c κs =
 
 add-at : tie.Need-add-at Inv-loop μ-loop
 add-at c =
+    let loop = c .before .before .before .before .before .before .before .before .before .before .before .loop in
+    let loop-test = c .before .before .before .before .before .before .before .before .before .before .loop-test in
+    let feed-one = c .before .before .before .before .before .before .feed-one in
     omega (
       arith,
       serving-next
-          (c .before .before .before .before .before .before .before .before .before .before .before .loop .inv .2)
-          (c .before .before .before .before .before .before .before .before .before .before .before .loop .inv .0)
-          (c .before .before .before .before .before .before .before .before .before .before .loop-test .taken)
+          (loop .inv .2)
+          (loop .inv .0)
+          (loop-test .taken)
           _ _ _
-          (c .before .before .before .before .before .before .feed-one .ensures)
+          (feed-one .ensures)
           .room,
     )
 

@@ -1,14 +1,11 @@
-use Prim.Native.Nat.{_+_, _-_, ℕ}
+use Prim.Native.Nat.{_-_}
 use native.Mathlib.Omega.{arith}
-use mathlib.Core.Bool.{Bool}
 use mathlib.Core.Path.{refl}
-use lib.ListN.{getD}
 use borrow.Author.Needs.{needs}
 use Rattle.layout.specs.Bytes.{fromBytes}
 use Rattle.tables.specs.Limits.{semaphoreLimit}
-use Rattle.tables.specs.Readers.{semaphore}
-use Rattle.tables.specs.Test.{semaphoreFits}
 use Rattle.soundness.specs.Squeeze.{blockLimit}
+use Rattle.soundness.specs.Tallies.{countedFits}
 use Rattle.soundness.proofs.counts.counts_fit.Statement.{statement}
 use Rattle.soundness.proofs.Squeezing.{all-overlap}
 use Rattle.soundness.proofs.counts.counts_fit.Tie as tie
@@ -27,7 +24,8 @@ block-fits-requires-2 c κs = search needs
 
 returns : tie.Need-returns
 returns c =
-    let f : ℕ → Bool = λ s. semaphoreFits (semaphore (fromBytes (c .before .before .before .before .before .before .before .args .bytes .now)) s) (getD (c .before .before .before .before .before .before .before .args .many .now) s 0 + getD (c .before .before .before .before .before .before .before .args .more .now) s 0) in
+    let args = c .before .before .before .before .before .before .before .args in
+    let f = countedFits (fromBytes (args .bytes .now)) (args .many .now) (args .more .now) in
     rw (c .before .before .block-fits .ensures, c .block-fits2 .ensures) (all-overlap f blockLimit (semaphoreLimit - blockLimit) semaphoreLimit (omega arith) refl)
 
 pub counts-fit-spec : {M : Type 1} → statement M

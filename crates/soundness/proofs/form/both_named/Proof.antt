@@ -1,8 +1,8 @@
+-- The flag says that the states and the places below i are named. Assumes nothing.
 use Prim.Native.Nat.{_-_, _≤_}
-use native.Mathlib.Nat.{zero-add}
 use native.Mathlib.Omega.{arith}
 use mathlib.Core.Bool.{_&&_}
-use mathlib.Core.Path.{_≡_, sym}
+use mathlib.Core.Path.{_≡_, refl, sym}
 use lib.ListN.{length}
 use borrow.Author.Needs.{needs}
 use Rattle.layout.specs.Bytes.{placeNamed, stateNamed}
@@ -22,17 +22,20 @@ abbrev μ-loop : tie.MeasureT-loop
 loop-holds : tie.Need-loop-holds Inv-loop μ-loop
 loop-holds c = (search needs, sym (all-none _), search needs)
 
+add-ok : tie.Need-add-ok Inv-loop μ-loop
+add-ok c = search needs
+
 shared-slice-read-ok : tie.Need-shared-slice-read-ok Inv-loop μ-loop
 shared-slice-read-ok c = search needs
 
 cast-ok : tie.Need-cast-ok Inv-loop μ-loop
 cast-ok c = search needs
 
-add-ok : tie.Need-add-ok Inv-loop μ-loop
-add-ok c = search needs
-
 add-ok-2 : tie.Need-add-ok-2 Inv-loop μ-loop
 add-ok-2 c = search needs
+
+add-ok-3 : tie.Need-add-ok-3 Inv-loop μ-loop
+add-ok-3 c = search needs
 
 shared-slice-read-ok-2 : tie.Need-shared-slice-read-ok-2 Inv-loop μ-loop
 shared-slice-read-ok-2 c = search needs
@@ -49,7 +52,8 @@ loop-less c = search needs
 loop-again : tie.Need-loop-again Inv-loop μ-loop
 loop-again c =
     let bs = c .before .before .before .before .args .bytes .now in
-    (search needs, all-next (λ j. stateNamed bs j && placeNamed bs j) (c .before .before .before .loop .i) _ _ (c .before .before .before .loop .inv .1) (sym (rw (zero-add (c .before .before .before .loop .i)))), search needs)
+    let loop = c .before .before .before .loop in
+    (search needs, all-next (λ j. stateNamed bs j && placeNamed bs j) (loop .i) _ _ (loop .inv .1) refl, search needs)
 
 returns : tie.Need-returns Inv-loop μ-loop
 returns c =
@@ -63,10 +67,11 @@ both-named-spec =
     Inv-loop
     μ-loop
     loop-holds
+    add-ok
     shared-slice-read-ok
     cast-ok
-    add-ok
     add-ok-2
+    add-ok-3
     shared-slice-read-ok-2
     cast-ok-2
     add-i

@@ -33,7 +33,10 @@ loop-less : tie.Need-loop-less Inv-loop μ-loop
 loop-less c = search needs
 
 loop-again : tie.Need-loop-again Inv-loop μ-loop
-loop-again c = (search needs, all-next (flagPlain (c .before .before .before .args .bytes .now)) (c .before .before .loop .i) _ _ (c .before .before .loop .inv .1) refl, search needs)
+loop-again c =
+    let bs = c .before .before .before .args .bytes .now in
+    let loop = c .before .before .loop in
+    (search needs, all-next (flagPlain bs) (loop .i) _ _ (loop .inv .1) refl, search needs)
 
 returns : tie.Need-returns Inv-loop μ-loop
 returns c =

@@ -19,7 +19,9 @@ flags-plain-requires c κs = search needs
 
 returns-2 : tie.Need-returns-2
 unfolding wellFormed
-returns-2 c = rw (eq-eqb _ size (c .before .before .if1 .left), c .before .both-named .ensures, c .flags-plain .ensures) (form-said (c .before .before .before .before .args .bytes .now))
+returns-2 c =
+    let bs = c .before .before .before .before .args .bytes .now in
+    rw (eq-eqb _ size (c .before .before .if1 .left), c .before .both-named .ensures, c .flags-plain .ensures) (form-said bs)
 
 pub well-formed-spec : {M : Type 1} → statement M
 well-formed-spec =

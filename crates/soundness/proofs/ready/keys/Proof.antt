@@ -1,3 +1,4 @@
+-- The keys below i are made. Assumes nothing.
 use Prim.Native.Nat.{_-_, _<_, _≤_, ℕ}
 use native.Mathlib.Omega.{arith}
 use mathlib.Core.Path.{_≡_}
@@ -19,17 +20,23 @@ abbrev μ-loop : tie.MeasureT-loop
 loop-holds : tie.Need-loop-holds Inv-loop μ-loop
 loop-holds c = (search needs, search needs, (λ p h. absurd (omega arith)), search needs)
 
+add-key : tie.Need-add-key Inv-loop μ-loop
+add-key c = search needs
+
 shared-slice-read-key : tie.Need-shared-slice-read-key Inv-loop μ-loop
 shared-slice-read-key c = search needs
 
-add-key : tie.Need-add-key Inv-loop μ-loop
-add-key c = search needs
+add-key-2 : tie.Need-add-key-2 Inv-loop μ-loop
+add-key-2 c = search needs
 
 shared-slice-read-key-2 : tie.Need-shared-slice-read-key-2 Inv-loop μ-loop
 shared-slice-read-key-2 c = search needs
 
 key-requires : tie.Need-key-requires Inv-loop μ-loop
-key-requires c κs = c .before .before .before .before .before .pre .1 (c .before .before .before .loop .i) (omega arith)
+key-requires c κs =
+    let pre = c .before .before .before .before .before .pre in
+    let loop = c .before .before .before .loop in
+    pre .1 (loop .i) (omega arith)
 
 array-write-k : tie.Need-array-write-k Inv-loop μ-loop
 array-write-k c = search needs
@@ -41,12 +48,11 @@ loop-less : tie.Need-loop-less Inv-loop μ-loop
 loop-less c = search needs
 
 loop-again : tie.Need-loop-again Inv-loop μ-loop
-loop-again c = (
-  search needs,
-  simp length-set (c .before .before .before .before .loop .inv .1),
-  filled-one (keyOf (c .before .before .before .before .before .before .args .bytes .now)) (c .before .before .before .before .loop .k) (c .before .before .before .before .loop .i) (c .key .result) (omega arith) (c .before .before .before .before .loop .inv .2) (c .key .ensures),
-  search needs,
-)
+loop-again c =
+    let bs = c .before .before .before .before .before .before .args .bytes .now in
+    let loop = c .before .before .before .before .loop in
+    let one = filled-one (keyOf bs) (loop .k) (loop .i) (c .key .result) (omega arith) (loop .inv .2) (c .key .ensures) in
+    (search needs, simp length-set (loop .inv .1), one, search needs)
 
 returns : tie.Need-returns Inv-loop μ-loop
 returns c =
@@ -60,8 +66,9 @@ keys-spec =
     Inv-loop
     μ-loop
     loop-holds
-    shared-slice-read-key
     add-key
+    shared-slice-read-key
+    add-key-2
     shared-slice-read-key-2
     key-requires
     array-write-k

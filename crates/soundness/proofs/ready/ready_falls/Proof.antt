@@ -1,3 +1,4 @@
+-- What is left of the test from place i on, with the key before it, is the whole test. Assumes nothing.
 use Prim.Native.Nat.{_+_, _-_, _<_, _≤_, ℕ}
 use native.Mathlib.Omega.{arith}
 use mathlib.Core.Path.{_∙_, _≡_, ap, refl, sym}
@@ -10,13 +11,13 @@ use Rattle.soundness.proofs.FallingBytes.{key-on, key-some, key-stop, l
 use Rattle.soundness.proofs.ready.ready_falls.Tie as tie
 
 abbrev Inv-loop : tie.InvT-loop
-Inv-loop bytes k top last₀ i₀ last i = (i ≤ processLimit) × (0 < last) × (((named : (j : ℕ) → j < processLimit → getD bytes (orderAt + j) 0 < processLimit) → left bytes named (top - 1) 0 ≡ left bytes named (last - 1) i)) × (length bytes ≡ size)
+Inv-loop bytes k top last₀ i₀ last i = (i ≤ processLimit) × (0 < last) × (left bytes (top - 1) 0 ≡ left bytes (last - 1) i) × (length bytes ≡ size)
 
 abbrev μ-loop : tie.MeasureT-loop
 μ-loop bytes k top last₀ i₀ last i = processLimit - i
 
 loop-holds : tie.Need-loop-holds Inv-loop μ-loop
-loop-holds c = (search needs, search needs, (λ named. refl), search needs)
+loop-holds c = (search needs, search needs, refl, search needs)
 
 add-p : tie.Need-add-p Inv-loop μ-loop
 add-p c = search needs
@@ -25,22 +26,35 @@ shared-slice-read-p : tie.Need-shared-slice-read-p Inv-loop μ-loop
 shared-slice-read-p c = search needs
 
 cast-p : tie.Need-cast-p Inv-loop μ-loop
-cast-p c = let hp : getD (c .before .before .before .before .args .bytes .now) (orderAt + c .before .before .loop .i) 0 < processLimit = c .before .before .before .before .pre .1 (c .before .before .loop .i) (omega arith) in search (needs, hp)
+cast-p c =
+    let start = c .before .before .before .before in
+    let bs = start .args .bytes .now in
+    let loop = c .before .before .loop in
+    let hp : getD bs (orderAt + loop .i) 0 < processLimit = start .pre .1 (loop .i) (omega arith) in
+    search (needs, hp)
 
 element-copy-out-v : tie.Need-element-copy-out-v Inv-loop μ-loop
-element-copy-out-v c = let hp : getD (c .before .before .before .before .args .bytes .now) (orderAt + c .before .before .loop .i) 0 < processLimit = c .before .before .before .before .pre .1 (c .before .before .loop .i) (omega arith) in omega arith
+element-copy-out-v c =
+    let start = c .before .before .before .before in
+    let bs = start .args .bytes .now in
+    let loop = c .before .before .loop in
+    let hp : getD bs (orderAt + loop .i) 0 < processLimit = start .pre .1 (loop .i) (omega arith) in
+    omega arith
 
 returns : tie.Need-returns Inv-loop μ-loop
 returns c =
-    let bs = c .before .before .before .before .before .before .args .bytes .now in
-    let named = c .before .before .before .before .before .before .pre .1 in
-    let i = c .before .before .before .before .loop .i in
+    let start = c .before .before .before .before .before .before in
+    let args = start .args in
+    let bs = args .bytes .now in
+    let loop = c .before .before .before .before .loop in
+    let i = loop .i in
+    let named = start .pre .1 in
     let p = getD bs (orderAt + i) 0 in
-    let v = getD (c .before .before .before .before .before .before .args .k .now) p 0 in
-    let hp : getD (c .before .before .before .before .before .before .args .bytes .now) (orderAt + c .before .before .before .before .loop .i) 0 < processLimit = named i (omega arith) in
-    let key = c .before .before .before .before .before .before .pre .2 p hp in
-    let stop = key-stop bs named i p (omega arith) refl (c .before .before .before .before .loop .last) v key (c .before .before .before .before .loop .inv .1) (c .if1 .taken) in
-    sym (sym (left-all bs named (c .before .before .before .before .before .before .args .top - 1)) ∙ c .before .before .before .before .loop .inv .2 named ∙ stop)
+    let v = getD (args .k .now) p 0 in
+    let hp : getD bs (orderAt + i) 0 < processLimit = named i (omega arith) in
+    let key = start .pre .2 p hp in
+    let stop = key-stop bs named i p (omega arith) refl (loop .last) v key (loop .inv .1) (c .if1 .taken) in
+    sym (sym (left-all bs (args .top - 1)) ∙ loop .inv .2 ∙ stop)
 
 latest-requires : tie.Need-latest-requires Inv-loop μ-loop
 latest-requires c κs = search needs
@@ -53,22 +67,29 @@ loop-less c = search needs
 
 loop-again : tie.Need-loop-again Inv-loop μ-loop
 loop-again c =
-    let bs = c .before .before .before .before .before .before .before .args .bytes .now in
-    let named = c .before .before .before .before .before .before .before .pre .1 in
-    let i = c .before .before .before .before .before .loop .i in
+    let start = c .before .before .before .before .before .before .before in
+    let args = start .args in
+    let bs = args .bytes .now in
+    let loop = c .before .before .before .before .before .loop in
+    let i = loop .i in
+    let named = start .pre .1 in
     let p = getD bs (orderAt + i) 0 in
-    let v = getD (c .before .before .before .before .before .before .before .args .k .now) p 0 in
-    let hp : getD (c .before .before .before .before .before .before .before .args .bytes .now) (orderAt + c .before .before .before .before .before .loop .i) 0 < processLimit = named i (omega arith) in
-    let key = c .before .before .before .before .before .before .before .pre .2 p hp in
+    let v = getD (args .k .now) p 0 in
+    let hp : getD bs (orderAt + i) 0 < processLimit = named i (omega arith) in
+    let key = start .pre .2 p hp in
     let e = c .latest .ensures in (
       search needs,
-      rw e (key-some bs named i p (omega arith) refl (c .before .before .before .before .before .loop .last) v key (c .before .before .before .before .before .loop .inv .1)),
-      (λ named. c .before .before .before .before .before .loop .inv .2 named ∙ key-on bs named i p (omega arith) refl (c .before .before .before .before .before .loop .last) v key (c .before .before .before .before .before .loop .inv .1) (c .before .if1 .left) ∙ ap (λ (n : ℕ). left bs named (n - 1) (i + 1)) (sym e)),
+      rw e (key-some bs named i p (omega arith) refl (loop .last) v key (loop .inv .1)),
+      loop .inv .2 ∙ key-on bs named i p (omega arith) refl (loop .last) v key (loop .inv .1) (c .before .if1 .left) ∙ ap (λ (n : ℕ). left bs (n - 1) (i + 1)) (sym e),
       search needs,
     )
 
 returns-2 : tie.Need-returns-2 Inv-loop μ-loop
-returns-2 c = sym (sym (left-all (c .before .before .before .args .bytes .now) (c .before .before .before .pre .1) (c .before .before .before .args .top - 1)) ∙ c .before .loop .inv .2 (c .before .before .before .pre .1) ∙ left-none (c .before .before .before .args .bytes .now) (c .before .before .before .pre .1) (c .before .loop .last - 1) (c .before .loop .i) (omega arith))
+returns-2 c =
+    let start = c .before .before .before in
+    let args = start .args in
+    let bs = args .bytes .now in
+    sym (sym (left-all bs (args .top - 1)) ∙ c .before .loop .inv .2 ∙ left-none bs (c .before .loop .last - 1) (c .before .loop .i) (omega arith))
 
 pub ready-falls-spec : {M : Type 1} → statement M
 ready-falls-spec =

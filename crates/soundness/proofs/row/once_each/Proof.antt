@@ -1,6 +1,7 @@
+-- A bit for each number that stands in the row so far: all bits, and each of the 32 stands there once. Assumes nothing.
 use Prim.Native.Nat.{_+_, _-_, _<_, _^_, _≤_, ℕ}
 use native.Mathlib.Omega.{arith}
-use mathlib.Core.Bool.{_||_, false}
+use mathlib.Core.Bool.{Bool, _||_, false}
 use mathlib.Core.List.{List}
 use mathlib.Core.Path.{_∙_, _≡_, ap, sym}
 use lib.Bits.{bitOr}
@@ -35,11 +36,19 @@ shared-slice-read-p : tie.Need-shared-slice-read-p Inv-loop μ-loop
 shared-slice-read-p c = search needs
 
 cast-seen : tie.Need-cast-seen Inv-loop μ-loop
-cast-seen c = let hp : getD (c .before .before .before .args .bytes .now) (orderAt + c .before .before .loop .i) 0 < processLimit = c .before .before .before .pre .1 (c .before .before .loop .i) (omega arith) in search (needs, hp)
+cast-seen c =
+    let start = c .before .before .before in
+    let bs = start .args .bytes .now in
+    let loop = c .before .before .loop in
+    let hp : getD bs (orderAt + loop .i) 0 < processLimit = start .pre .1 (loop .i) (omega arith) in
+    search (needs, hp)
 
 shl-seen : tie.Need-shl-seen Inv-loop μ-loop
 shl-seen c =
-    let hp : getD (c .before .before .before .args .bytes .now) (orderAt + c .before .before .loop .i) 0 < processLimit = c .before .before .before .pre .1 (c .before .before .loop .i) (omega arith) in
+    let start = c .before .before .before in
+    let bs = start .args .bytes .now in
+    let loop = c .before .before .loop in
+    let hp : getD bs (orderAt + loop .i) 0 < processLimit = start .pre .1 (loop .i) (omega arith) in
     omega arith
 
 add-i : tie.Need-add-i Inv-loop μ-loop
@@ -50,17 +59,21 @@ loop-less c = search needs
 
 loop-again : tie.Need-loop-again Inv-loop μ-loop
 loop-again c =
-    let bs = c .before .before .before .args .bytes .now in
-    let i = c .before .before .loop .i in
+    let start = c .before .before .before in
+    let bs = start .args .bytes .now in
+    let loop = c .before .before .loop in
+    let i = loop .i in
     let p = getD bs (orderAt + i) 0 in
-    let hp : p < processLimit = c .before .before .before .pre .1 i (omega arith) in
+    let hp : p < processLimit = start .pre .1 i (omega arith) in
     let o = fromBytes bs .order in
+    let f : ℕ → ℕ → Bool = λ n q. ltb 0 (times q (take n o)) in
+    let here : p ≡ getD o i 0 = sym (place-said bs i (omega arith)) in
     let l : i < length o = rw (order-long bs) (omega arith) in (
       search needs,
-      ap (bitOr (c .before .before .loop .seen)) (shifted p hp)
-          ∙ ap (λ (k : ℕ). bitOr k (2 ^ p)) (c .before .before .loop .inv .1)
-          ∙ mask-or processLimit (λ q. ltb 0 (times q (take i o))) p hp
-          ∙ mask-ext processLimit (λ q. ltb 0 (times q (take i o)) || eqb q p) (λ q. ltb 0 (times q (take (i + 1) o))) (λ q h. ap (λ (k : ℕ). ltb 0 (times q (take i o)) || eqb q k) (sym (place-said bs i (omega arith))) ∙ among-next o i q l),
+      ap (bitOr (loop .seen)) (shifted p hp)
+          ∙ ap (λ (k : ℕ). bitOr k (2 ^ p)) (loop .inv .1)
+          ∙ mask-or processLimit (f i) p hp
+          ∙ mask-ext processLimit (λ q. f i q || eqb q p) (f (i + 1)) (λ q h. ap (λ (k : ℕ). f i q || eqb q k) here ∙ among-next o i q l),
       search needs,
     )
 
@@ -68,9 +81,10 @@ returns : tie.Need-returns Inv-loop μ-loop
 returns c =
     let bs = c .before .before .args .bytes .now in
     let o = fromBytes bs .order in
-    let k : c .before .loop .i ≡ processLimit = omega arith in
-    let e : c .before .loop .seen ≡ mask processLimit (λ p. ltb 0 (times p (take (c .before .loop .i) o))) = c .before .loop .inv .1 in
-    ap (λ (m : ℕ). eqb m (2 ^ processLimit - 1)) (e ∙ ap (λ (l : List ℕ). mask processLimit (λ p. ltb 0 (times p l))) (take-all (c .before .loop .i) o (rw (order-long bs) (omega arith))))
+    let loop = c .before .loop in
+    let k : loop .i ≡ processLimit = omega arith in
+    let whole = take-all (loop .i) o (rw (order-long bs) (omega arith)) in
+    ap (λ (m : ℕ). eqb m (2 ^ processLimit - 1)) (loop .inv .1 ∙ ap (λ (l : List ℕ). mask processLimit (λ p. ltb 0 (times p l))) whole)
     ∙ mask-full processLimit (λ p. ltb 0 (times p o))
     ∙ all-among o (order-long bs) (λ i h. rw (place-said bs i h) (c .before .before .pre .1 i h))
 

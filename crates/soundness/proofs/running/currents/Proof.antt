@@ -1,22 +1,18 @@
-use Prim.Native.Nat.{_-_, _≤_, ℕ}
+-- The sum so far is that of the slots below i. Assumes nothing.
+use Prim.Native.Nat.{_-_, _≤_}
 use native.Mathlib.Omega.{arith}
-use mathlib.Core.Bool.{Bool}
 use mathlib.Core.Logic.{⊎-elim}
-use mathlib.Core.Path.{_∙_, _≡_, ap, sym}
-use lib.Dec.{eqb}
-use lib.ListN.{getD, length}
+use mathlib.Core.Path.{_∙_, _≡_, sym}
+use lib.ListN.{length}
 use borrow.Author.Needs.{needs}
-use borrow.Author.Tests.{eq-eqb, ne-eqb}
 use Rattle.layout.specs.Bytes.{fromBytes}
 use Rattle.layout.specs.Offsets.{size}
 use Rattle.tables.specs.Limits.{processLimit}
-use Rattle.tables.specs.Readers.{stateOf}
 use Rattle.tables.specs.States.{isCurrent}
 use Rattle.lists.proofs.Rows.{total-none}
 use Rattle.soundness.specs.Tallies.{tally}
 use Rattle.soundness.proofs.running.currents.Statement.{statement}
-use Rattle.soundness.proofs.StateBytes.{current-byte, state-said}
-use Rattle.soundness.proofs.Tally.{sum-no, sum-small, sum-yes}
+use Rattle.soundness.proofs.Tally.{current-more, current-same, currents-small}
 use Rattle.soundness.proofs.running.currents.Tie as tie
 
 abbrev Inv-loop : tie.InvT-loop
@@ -28,13 +24,18 @@ abbrev μ-loop : tie.MeasureT-loop
 loop-holds : tie.Need-loop-holds Inv-loop μ-loop
 loop-holds c = (search needs, sym (total-none _), search needs)
 
+add-if1 : tie.Need-add-if1 Inv-loop μ-loop
+add-if1 c = search needs
+
 shared-slice-read-if1 : tie.Need-shared-slice-read-if1 Inv-loop μ-loop
 shared-slice-read-if1 c = search needs
 
 add-many : tie.Need-add-many Inv-loop μ-loop
 add-many c =
-    let l = sum-small (λ p. isCurrent (stateOf (fromBytes (c .before .before .before .before .args .bytes .now)) p)) (λ p. 1) (c .before .before .before .loop .i) 1 (λ p h. omega arith) in
-    omega (arith, c .before .before .before .loop .inv .1)
+    let bs = c .before .before .before .before .args .bytes .now in
+    let loop = c .before .before .before .loop in
+    let l = currents-small bs (λ p. 1) (loop .i) 1 (λ p h. omega arith) in
+    omega (arith, loop .inv .1)
 
 add-i : tie.Need-add-i Inv-loop μ-loop
 add-i c = search needs
@@ -45,16 +46,11 @@ loop-less c = search needs
 loop-again : tie.Need-loop-again Inv-loop μ-loop
 loop-again c =
     let bs = c .before .before .before .before .args .bytes .now in
-    let i = c .before .before .before .loop .i in
-    let f : ℕ → Bool = λ p. isCurrent (stateOf (fromBytes bs) p) in
-    let is : f i ≡ eqb (getD bs i 0) 1 = ap isCurrent (state-said bs i (omega arith)) ∙ current-byte (getD bs i 0) in (
-      search needs,
-      ⊎-elim
-          (λ w. w .1 ∙ sum-yes f (λ p. 1) i _ (c .before .before .before .loop .inv .1) (is ∙ eq-eqb _ 1 (w .0 .taken)))
-          (λ w. w .1 ∙ sum-no f (λ p. 1) i _ (c .before .before .before .loop .inv .1) (is ∙ ne-eqb _ 1 (w .0 .left)))
-          (c .if1 .came),
-      search needs,
-    )
+    let loop = c .before .before .before .loop in
+    let i = loop .i in
+    let more = current-more bs (λ p. 1) i _ (omega arith) (loop .inv .1) in
+    let same = current-same bs (λ p. 1) i _ (omega arith) (loop .inv .1) in
+    (search needs, ⊎-elim (λ w. w .1 ∙ more (w .0 .taken)) (λ w. w .1 ∙ same (w .0 .left)) (c .if1 .came), search needs)
 
 returns : tie.Need-returns Inv-loop μ-loop
 returns c =
@@ -68,6 +64,7 @@ currents-spec =
     Inv-loop
     μ-loop
     loop-holds
+    add-if1
     shared-slice-read-if1
     add-many
     add-i

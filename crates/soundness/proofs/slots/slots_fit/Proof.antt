@@ -1,3 +1,4 @@
+-- The flag says that the slots below i fit. Assumes nothing.
 use Prim.Native.Nat.{_-_, _≤_}
 use native.Mathlib.Omega.{arith}
 use mathlib.Core.Bool.{Bool, _||_}
@@ -11,9 +12,9 @@ use Rattle.lists.specs.Numbers.{all}
 use Rattle.tables.specs.Limits.{processLimit}
 use Rattle.tables.specs.Readers.{process}
 use Rattle.tables.specs.Test.{slotFits}
+use Rattle.layout.proofs.Image.{process-said}
 use Rattle.lists.proofs.NumberLaws.{all-next, all-none}
 use Rattle.soundness.proofs.slots.slots_fit.Statement.{statement}
-use Rattle.soundness.proofs.StateBytes.{slot-said}
 use Rattle.soundness.proofs.slots.slots_fit.Tie as tie
 
 abbrev Inv-loop : tie.InvT-loop
@@ -25,11 +26,14 @@ abbrev μ-loop : tie.MeasureT-loop
 loop-holds : tie.Need-loop-holds Inv-loop μ-loop
 loop-holds c = (search needs, sym (all-none _), search needs)
 
+add-slot-fits : tie.Need-add-slot-fits Inv-loop μ-loop
+add-slot-fits c = search needs
+
 shared-slice-read-slot-fits : tie.Need-shared-slice-read-slot-fits Inv-loop μ-loop
 shared-slice-read-slot-fits c = search needs
 
-add-slot-fits : tie.Need-add-slot-fits Inv-loop μ-loop
-add-slot-fits c = search needs
+add-slot-fits-2 : tie.Need-add-slot-fits-2 Inv-loop μ-loop
+add-slot-fits-2 c = search needs
 
 shared-slice-read-slot-fits-2 : tie.Need-shared-slice-read-slot-fits-2 Inv-loop μ-loop
 shared-slice-read-slot-fits-2 c = search needs
@@ -46,8 +50,10 @@ loop-less c = search needs
 loop-again : tie.Need-loop-again Inv-loop μ-loop
 loop-again c =
     let bs = c .before .before .before .before .before .before .args .bytes .now in
-    let i = c .before .before .before .before .loop .i in
-    (search needs, all-next (λ p. eqb p 0 || slotFits (process (fromBytes bs) p)) i _ _ (c .before .before .before .before .loop .inv .1) (ap (λ (b : Bool). eqb i 0 || b) (c .slot-fits .ensures ∙ ap slotFits (sym (slot-said bs i (omega arith))))), search needs)
+    let loop = c .before .before .before .before .loop in
+    let i = loop .i in
+    let one = c .slot-fits .ensures ∙ ap slotFits (sym (process-said bs i (omega arith))) in
+    (search needs, all-next (λ p. eqb p 0 || slotFits (process (fromBytes bs) p)) i _ _ (loop .inv .1) (ap (λ (b : Bool). eqb i 0 || b) one), search needs)
 
 returns : tie.Need-returns Inv-loop μ-loop
 returns c =
@@ -61,8 +67,9 @@ slots-fit-spec =
     Inv-loop
     μ-loop
     loop-holds
-    shared-slice-read-slot-fits
     add-slot-fits
+    shared-slice-read-slot-fits
+    add-slot-fits-2
     shared-slice-read-slot-fits-2
     slot-fits-requires
     add-i

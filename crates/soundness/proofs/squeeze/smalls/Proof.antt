@@ -33,7 +33,8 @@ loop-less c = search needs
 
 loop-again : tie.Need-loop-again Inv-loop μ-loop
 loop-again c =
-    let e : (c .before .before .before .loop .j + 1) * laneLimit ≡ c .before .before .before .loop .j * laneLimit + laneLimit = omega arith in
+    let loop = c .before .before .before .loop in
+    let e : (loop .j + 1) * laneLimit ≡ loop .j * laneLimit + laneLimit = omega arith in
     (search needs, rw e (c .squeeze .ensures), search needs, search needs)
 
 returns : tie.Need-returns Inv-loop μ-loop

@@ -1,4 +1,4 @@
--- Each turn puts one count more, squeezed, behind those that stand: the word read is the count's, as a signed number.
+-- Each turn puts one count more, squeezed, behind those that stand: the word read is the count's, as a signed number. Assumes nothing.
 use Prim.Native.Nat.{_*_, _+_, _-_, _≤_}
 use native.Mathlib.Omega.{arith}
 use mathlib.Core.Path.{_≡_}
@@ -61,7 +61,9 @@ loop-again c =
     let from = args .from in
     let s = args .at + loop .i in
     let word = c .before .before .word-at in
-    let is = count-said (c .small .result) (c .before .signed .result) (word .result) (wordAt bs (countsAt + (from + s) * 4)) (search needs) (c .small .ensures) (c .before .signed .ensures) (word .ensures) in
+    let sign = c .before .signed in
+    let read = wordAt bs (countsAt + (from + s) * 4) in
+    let is = count-said (c .small .result) (sign .result) (word .result) read (search needs) (c .small .ensures) (sign .ensures) (word .ensures) in
     (search needs, squeezed-next bs from s (args .at + (loop .i + 1)) (c .small .result) (loop .x) (loop .inv .1) (omega arith) (omega arith) is, search needs, search needs, search needs)
 
 returns : tie.Need-returns Inv-loop μ-loop

@@ -1,3 +1,4 @@
+-- Each turn counts one process more of either half, at the cell that its state byte names. Assumes nothing.
 use Prim.Native.Nat.{_+_, _-_, _<_, _≤_}
 use native.Mathlib.Nat.{zero-add}
 use native.Mathlib.Omega.{arith}
@@ -22,39 +23,67 @@ abbrev μ-loop : tie.MeasureT-loop
 loop-holds : tie.Need-loop-holds Inv-loop μ-loop
 loop-holds c = (search needs, c .before .pre .1, c .before .pre .2, search needs)
 
+add-cell : tie.Need-add-cell Inv-loop μ-loop
+add-cell c = search needs
+
 shared-slice-read-cell : tie.Need-shared-slice-read-cell Inv-loop μ-loop
-shared-slice-read-cell c = let l = formed-long (c .before .before .before .before .args .bytes .now) (c .before .before .before .before .pre .0) in omega arith
+shared-slice-read-cell c =
+    let start = c .before .before .before .before in
+    let bs = start .args .bytes .now in
+    let l = formed-long bs (start .pre .0) in
+    omega arith
 
 cell-requires : tie.Need-cell-requires Inv-loop μ-loop
 cell-requires c κs =
-    let h : c .before .before .loop .i < processLimit = omega arith in
-    (search needs, rw (zero-add (c .before .before .loop .i)) at (formed-state (c .before .before .before .before .args .bytes .now) (c .before .before .before .before .pre .0) (c .before .before .loop .i) h))
+    let start = c .before .before .before .before in
+    let bs = start .args .bytes .now in
+    let loop = c .before .before .loop in
+    let i = loop .i in
+    let h : i < processLimit = omega arith in
+    (search needs, formed-state bs (start .pre .0) i h)
 
 element-copy-out-many : tie.Need-element-copy-out-many Inv-loop μ-loop
 element-copy-out-many c = search needs
 
 add-many : tie.Need-add-many Inv-loop μ-loop
-add-many c = let f = c .before .before .before .before .loop .inv .1 .few (c .before .cell .result) in record { fits = omega arith }
+add-many c =
+    let loop = c .before .before .before .before .loop in
+    let f = loop .inv .1 .few (c .before .cell .result) in
+    record { fits = omega arith }
 
 element-write-many : tie.Need-element-write-many Inv-loop μ-loop
 element-write-many c = search needs
 
-add-cell : tie.Need-add-cell Inv-loop μ-loop
-add-cell c = search needs
+add-cell-2 : tie.Need-add-cell-2 Inv-loop μ-loop
+add-cell-2 c = search needs
+
+add-cell-3 : tie.Need-add-cell-3 Inv-loop μ-loop
+add-cell-3 c = search needs
 
 shared-slice-read-cell-2 : tie.Need-shared-slice-read-cell-2 Inv-loop μ-loop
-shared-slice-read-cell-2 c = let l = formed-long (c .before .before .before .before .before .before .before .args .bytes .now) (c .before .before .before .before .before .before .before .pre .0) in omega arith
+shared-slice-read-cell-2 c =
+    let start = c .before .before .before .before .before .before .before in
+    let bs = start .args .bytes .now in
+    let l = formed-long bs (start .pre .0) in
+    omega arith
 
 cell-requires-2 : tie.Need-cell-requires-2 Inv-loop μ-loop
 cell-requires-2 c κs =
-    let h : halfLimit + c .before .before .before .before .before .loop .i < processLimit = omega arith in
-    (search needs, rw (zero-add (halfLimit + c .before .before .before .before .before .loop .i)) at (formed-state (c .before .before .before .before .before .before .before .args .bytes .now) (c .before .before .before .before .before .before .before .pre .0) (halfLimit + c .before .before .before .before .before .loop .i) h))
+    let start = c .before .before .before .before .before .before .before in
+    let bs = start .args .bytes .now in
+    let loop = c .before .before .before .before .before .loop in
+    let i = loop .i in
+    let h : halfLimit + i < processLimit = omega arith in
+    (search needs, formed-state bs (start .pre .0) (halfLimit + i) h)
 
 element-copy-out-more : tie.Need-element-copy-out-more Inv-loop μ-loop
 element-copy-out-more c = search needs
 
 add-more : tie.Need-add-more Inv-loop μ-loop
-add-more c = let f = c .before .before .before .before .before .before .before .loop .inv .2 .few (c .before .cell2 .result) in record { fits = omega arith }
+add-more c =
+    let loop = c .before .before .before .before .before .before .before .loop in
+    let f = loop .inv .2 .few (c .before .cell2 .result) in
+    record { fits = omega arith }
 
 element-write-more : tie.Need-element-write-more Inv-loop μ-loop
 element-write-more c = search needs
@@ -67,12 +96,19 @@ loop-less c = search needs
 
 loop-again : tie.Need-loop-again Inv-loop μ-loop
 loop-again c =
-    let bs = (c .before .before .before .before .before .before .before .before .before .args .bytes .now) in (
-      search needs,
-      tallied-next (fromBytes bs) 0 (c .before .before .before .before .before .before .before .loop .i) (c .before .before .before .before .before .before .before .loop .many) (c .before .before .before .before .before .before .before .loop .inv .1) (c .before .before .before .before .cell .result) (c .before .before .before .before .cell .ensures .0) (λ s h. rw (zero-add (c .before .before .before .before .before .before .before .loop .i)) (waits-cell bs (c .before .before .before .before .before .before .before .loop .i) (c .before .before .before .before .before .before .before .loop .i) (c .before .before .before .before .cell .result) (omega arith) (c .before .before .before .before .cell .ensures .1) s h)),
-      tallied-next (fromBytes bs) halfLimit (c .before .before .before .before .before .before .before .loop .i) (c .before .before .before .before .before .before .before .loop .more) (c .before .before .before .before .before .before .before .loop .inv .2) (c .before .cell2 .result) (c .before .cell2 .ensures .0) (waits-cell bs (halfLimit + c .before .before .before .before .before .before .before .loop .i) (c .before .before .before .before .before .before .before .loop .i) (c .before .cell2 .result) (omega arith) (c .before .cell2 .ensures .1)),
-      search needs,
-    )
+    let bs = c .before .before .before .before .before .before .before .before .before .args .bytes .now in
+    let loop = c .before .before .before .before .before .before .before .loop in
+    let cell = c .before .before .before .before .cell in
+    let cell2 = c .before .cell2 in
+    let i = loop .i in
+    let h : i < processLimit = omega arith in
+    let many =
+    tallied-next (fromBytes bs) 0 i (loop .many) (loop .inv .1) (cell .result) (cell .ensures .0)
+    (rw (zero-add i) (waits-cell bs i i (cell .result) h (cell .ensures .1))) in
+    let more =
+    tallied-next (fromBytes bs) halfLimit i (loop .more) (loop .inv .2) (cell2 .result) (cell2 .ensures .0)
+    (waits-cell bs (halfLimit + i) i (cell2 .result) (omega arith) (cell2 .ensures .1)) in
+    (search needs, many, more, search needs)
 
 returns : tie.Need-returns Inv-loop μ-loop
 returns c =
@@ -86,12 +122,14 @@ tally-spec =
     Inv-loop
     μ-loop
     loop-holds
+    add-cell
     shared-slice-read-cell
     cell-requires
     element-copy-out-many
     add-many
     element-write-many
-    add-cell
+    add-cell-2
+    add-cell-3
     shared-slice-read-cell-2
     cell-requires-2
     element-copy-out-more

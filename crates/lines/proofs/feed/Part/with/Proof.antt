@@ -11,7 +11,9 @@ add-t9 : tie.Need-add-t9
 add-t9 c = search needs
 
 returns : tie.Need-returns
-returns c = held-more (c .before .before .args .self .bytes) (c .before .before .args .self .count) (c .before .before .args .c) (search needs) (c .before .if1 .taken)
+returns c =
+    let args = c .before .before .args in
+    held-more (args .self .bytes) (args .self .count) (args .c) (search needs) (c .before .if1 .taken)
 
 returns-2 : tie.Need-returns-2
 returns-2 c = held-full (c .before .args .self .bytes) (c .before .args .self .count) (c .before .args .c) (search needs) (c .if1 .left)
