@@ -1,8 +1,7 @@
 -- What each field of the lent bytes tells. Assumes nothing.
 use Prim.Native.Nat.{_*_, _+_, _-_, _<_, _≤_, ℕ}
 use native.Mathlib.Omega.{arith}
-use native.Mathlib.Nat.{zero-add}
-use mathlib.Core.Path.{_∙_, _≡_, ap, refl, sym}
+use mathlib.Core.Path.{_∙_, _≡_, ap, refl}
 use mathlib.Core.Bool.{Bool, false, true}
 use mathlib.Core.List.{List}
 use lib.Dec.{eqb}
@@ -44,10 +43,6 @@ used-there false = refl
 module _ (t : Tables) (bs : List ℕ) (st : Stands t bs) where
   pub state-stands : (p : ℕ) → p < processLimit → getD bs (statesAt + p) 0 ≡ stateByte (stateOf t p)
   state-stands p h = st .bytes (statesAt + p) (omega arith) ∙ state-byte t p (statesAt + p) h refl
-
-  -- the same for code that names no offset: the states stand first
-  pub state-read : (p : ℕ) → p < processLimit → getD bs p 0 ≡ stateByte (stateOf t p)
-  state-read p h = ap (λ (z : ℕ). getD bs z 0) (sym (zero-add p)) ∙ state-stands p h
 
   priority-read : (p : ℕ) → p < processLimit → getD bs (prioritiesAt + p) 0 ≡ priorityOf t p
   priority-read p h = st .bytes (prioritiesAt + p) (omega arith) ∙ priority-byte t p (prioritiesAt + p) h refl

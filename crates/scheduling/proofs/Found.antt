@@ -10,6 +10,7 @@ use lib.ListN.{drop, drop-of-length-le, getD, length}
 use lib.Seq.{drop-cons}
 use borrow.Author.Tests.{eq-eqb, lt-ltb, ne-eqb}
 use Rattle.layout.specs.Bytes.{noState, stateByte}
+use Rattle.layout.specs.Offsets.{statesAt}
 use Rattle.layout.specs.Stands.{Stands, Tells}
 use Rattle.lists.specs.Lists.{filter, firstOr}
 use Rattle.tables.specs.Limits.{processLimit, semaphoreLimit}
@@ -18,15 +19,15 @@ use Rattle.tables.specs.States.{isCurrent, isReady, waitsOn}
 use Rattle.tables.specs.declared.State.{State}
 use Rattle.tables.specs.declared.State.the-variants.{Current, Free, Ready, Suspended, Waiting}
 use Rattle.tables.specs.declared.Tables.{Tables}
-use Rattle.layout.proofs.Readers.{state-read}
+use Rattle.layout.proofs.Readers.{state-stands}
 use Rattle.lists.proofs.Bools.{either, split}
 use Rattle.lists.proofs.ListLaws.{filter-ext}
 use Rattle.scheduling.specs.Row.{byByte, found}
 
 -- the state byte of who stands at place i
-pub place-byte : (bs : List ℕ) (i q : ℕ) → i < processLimit → Tells (λ t. getD (t .order) i 0) bs q → (t : Tables) → Stands t bs → getD bs q 0 ≡ stateByte (stateOf t (getD (t .order) i 0))
+pub place-byte : (bs : List ℕ) (i q : ℕ) → i < processLimit → Tells (λ t. getD (t .order) i 0) bs q → (t : Tables) → Stands t bs → getD bs (statesAt + q) 0 ≡ stateByte (stateOf t (getD (t .order) i 0))
 unfolding Tells
-place-byte bs i q h at t st = ap (λ (z : ℕ). getD bs z 0) (at t st) ∙ state-read t bs st (getD (t .order) i 0) (st .held .row i h)
+place-byte bs i q h at t st = ap (λ (z : ℕ). getD bs (statesAt + z) 0) (at t st) ∙ state-stands t bs st (getD (t .order) i 0) (st .held .row i h)
 
 -- from place i on the search finds what it finds from the start
 unfoldable pub Scans : ℕ → ℕ → List ℕ → Type 0
@@ -38,14 +39,14 @@ module _ (b : ℕ) (bs : List ℕ) where
   scan-start t st = refl
 
   module _ (i q : ℕ) (h : i < processLimit) (at : Tells (λ t. getD (t .order) i 0) bs q) (s : Scans b i bs) where
-    pub scan-here : getD bs q 0 ≡ b → Tells (found b) bs q
+    pub scan-here : getD bs (statesAt + q) 0 ≡ b → Tells (found b) bs q
     unfolding Tells Scans filter firstOr
     scan-here e t st =
         let long : i < length (t .order) = omega (arith, st .held .places) in
         let is : byByte b (stateOf t (getD (t .order) i 0)) ≡ true = eq-eqb _ b (sym (place-byte bs i q h at t st) ∙ e) in
         at t st ∙ (rw (drop-cons (t .order) i 0 long, is) at (s t st))
 
-    pub scan-on : (getD bs q 0 ≡ b → ⊥) → Scans b (i + 1) bs
+    pub scan-on : (getD bs (statesAt + q) 0 ≡ b → ⊥) → Scans b (i + 1) bs
     unfolding Scans filter firstOr
     scan-on e t st =
         let long : i < length (t .order) = omega (arith, st .held .places) in

@@ -1,5 +1,5 @@
 -- Scheduling, composed of moves along the row and stores. Assumes nothing.
-use Prim.Native.Nat.{_<_, ℕ}
+use Prim.Native.Nat.{_+_, _<_, ℕ}
 use native.Mathlib.Omega.{arith}
 use mathlib.Core.Bool.{Bool, false, true, true≢false}
 use mathlib.Core.List.{List, [], _∷_}
@@ -8,6 +8,7 @@ use lib.Dec.{ltb}
 use lib.ListN.{getD, length}
 use borrow.Author.Tests.{eq-eqb, le-ltb, ne-eqb}
 use Rattle.layout.specs.Bytes.{stateByte}
+use Rattle.layout.specs.Offsets.{statesAt}
 use Rattle.layout.specs.Stands.{Stands, Tells, Turns}
 use Rattle.lists.specs.Lists.{filter, if_then_else_, place, putBefore, times, without}
 use Rattle.rules.specs.Schedule.{joining, makeReady, makeWait, reschedule, startFirst, switch}
@@ -20,7 +21,7 @@ use Rattle.tables.specs.declared.Process.{Process}
 use Rattle.tables.specs.declared.State.the-variants.{Current, Ready, Waiting}
 use Rattle.tables.specs.declared.Tables.{Tables}
 use Rattle.layout.proofs.Compose.{in-turn, with-told}
-use Rattle.layout.proofs.Readers.{state-read}
+use Rattle.layout.proofs.Readers.{state-stands}
 use Rattle.lists.proofs.Bools.{split}
 use Rattle.lists.proofs.ListLaws.{times-filter}
 use Rattle.rules.proofs.Joins.{ready-joined}
@@ -93,16 +94,16 @@ module _ (c f : ℕ) (a : List ℕ) (ready : Tells (found 2) a f) where
     last-runs : (u : Tables) → length (u .processes) ≡ processLimit → f < processLimit → Sound (withState u f Current) → f ≡ currentOf (withState u f Current)
     last-runs u l h S = sym (current-unique S f (ap (λ (x : Process). isCurrent (x .state)) (at-same u f (record { state = Current; priority = priorityOf u f }) (omega arith))))
 
-    pub resched-start : (b : List ℕ) → (getD a c 0 ≡ 1 → ⊥) → (f < processLimit → Turns (λ t. withState t f Current) a b) → Reschedules c a b f
+    pub resched-start : (b : List ℕ) → (getD a (statesAt + c) 0 ≡ 1 → ⊥) → (f < processLimit → Turns (λ t. withState t f Current) a b) → Reschedules c a b f
     unfolding Reschedules Turns reschedule switch startFirst
     resched-start b stopped put t st o =
         let w = ready-first t st in
-        let still : isCurrent (stateOf t c) ≡ false = sym (current-byte (stateOf t c)) ∙ ne-eqb (stateByte (stateOf t c)) 1 (λ z. stopped (state-read t a st c (o .below) ∙ z)) in
+        let still : isCurrent (stateOf t c) ≡ false = sym (current-byte (stateOf t c)) ∙ ne-eqb (stateByte (stateOf t c)) 1 (λ z. stopped (state-stands t a st c (o .below) ∙ z)) in
         rw (w .2, only-nobody c t o still, w .2) (put (w .0) t st, last-runs t (st .held .slots) (w .0))
 
-    module _ (runs-on : getD a c 0 ≡ 1) (x y : Process) (tx : c < processLimit → Tells (λ t. process t c) a x) (ty : f < processLimit → Tells (λ t. process t f) a y) where
+    module _ (runs-on : getD a (statesAt + c) 0 ≡ 1) (x y : Process) (tx : c < processLimit → Tells (λ t. process t c) a x) (ty : f < processLimit → Tells (λ t. process t f) a y) where
       runs : (t : Tables) → Stands t a → Only c t → isCurrent (stateOf t c) ≡ true
-      runs t st o = sym (current-byte (stateOf t c)) ∙ eq-eqb (stateByte (stateOf t c)) 1 (sym (state-read t a st c (o .below)) ∙ runs-on)
+      runs t st o = sym (current-byte (stateOf t c)) ∙ eq-eqb (stateByte (stateOf t c)) 1 (sym (state-stands t a st c (o .below)) ∙ runs-on)
 
       test : (t : Tables) → Stands t a → Only c t → ltb (y .priority) (x .priority) ≡ ltb (priorityOf t f) (priorityOf t c)
       unfolding Tells

@@ -10,6 +10,7 @@ use lib.ListN.{drop, drop-of-length-le, getD, length, set, take}
 use lib.Seq.{take-all, take-suc-set}
 use borrow.Author.Tests.{eq-eqb, le-ltb, lt-ltb, ne-eqb}
 use Rattle.layout.specs.Bytes.{stateByte}
+use Rattle.layout.specs.Offsets.{statesAt}
 use Rattle.layout.specs.Stands.{Stands, Tells, Turns}
 use Rattle.lists.specs.Lists.{filter, if_then_else_}
 use Rattle.rules.specs.Schedule.{makeAllReady, makeReady}
@@ -27,11 +28,11 @@ use Rattle.scheduling.proofs.Moves.{next}
 
 module _ (b : ℕ) (bs : List ℕ) where
   module _ (i q : ℕ) (h : i < processLimit) (at : Tells (λ t. getD (t .order) i 0) bs q) where
-    pub mark-yes : getD bs q 0 ≡ b → Tells (λ t. marked t b i) bs q
+    pub mark-yes : getD bs (statesAt + q) 0 ≡ b → Tells (λ t. marked t b i) bs q
     unfolding Tells
     mark-yes e t st = at t st ∙ sym (rw (eq-eqb (stateByte (stateOf t (getD (t .order) i 0))) b (sym (place-byte bs i q h at t st) ∙ e)) refl)
 
-    pub mark-no : (getD bs q 0 ≡ b → ⊥) → Tells (λ t. marked t b i) bs processLimit
+    pub mark-no : (getD bs (statesAt + q) 0 ≡ b → ⊥) → Tells (λ t. marked t b i) bs processLimit
     unfolding Tells
     mark-no e t st = sym (rw (ne-eqb (stateByte (stateOf t (getD (t .order) i 0))) b (λ z. e (place-byte bs i q h at t st ∙ z))) refl)
 

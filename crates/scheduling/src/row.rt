@@ -2,6 +2,7 @@
 use layout::fields::place;
 use layout::fields::process;
 use layout::fields::put_place;
+use layout::offsets::STATES;
 use tables::State;
 use tables::Tables;
 ghost use mathlib.Core.Path.{_≡_};
@@ -27,7 +28,7 @@ pub fn find(bytes: &[u8], b: u8) -> u8
     let mut i: usize = 0;
     while i < Tables::PROCESSES {
         let q = place(bytes, i);
-        if bytes[q as usize] == b {
+        if bytes[STATES + q as usize] == b {
             return q;
         }
         i = i + 1;

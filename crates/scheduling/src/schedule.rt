@@ -4,6 +4,7 @@ use crate::row::find;
 use crate::row::reposition;
 use layout::fields::process;
 use layout::fields::put_state;
+use layout::offsets::STATES;
 use layout::state::CURRENT;
 use layout::state::READY;
 use tables::State;
@@ -44,7 +45,7 @@ pub fn reschedule(bytes: &mut [u8], c: u8) -> u8
     if f == NOBODY {
         return c;
     }
-    if bytes[c as usize] != CURRENT {
+    if bytes[STATES + c as usize] != CURRENT {
         put_state(bytes, f, State::Current);
         return f;
     }

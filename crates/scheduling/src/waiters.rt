@@ -2,6 +2,7 @@
 use crate::row::NOBODY;
 use crate::schedule::make_ready;
 use layout::fields::place;
+use layout::offsets::STATES;
 use tables::Tables;
 ghost use mathlib.Core.Path.{_≡_};
 ghost use Prim.Native.Nat.{_<_};
@@ -19,7 +20,7 @@ fn mark(bytes: &[u8], i: usize, b: u8) -> u8
     ensures { λ r. ⌜ Tells (λ t. marked t b i) (now (bytes .entry)) r ⌝ }
 {
     let q = place(bytes, i);
-    if bytes[q as usize] == b {
+    if bytes[STATES + q as usize] == b {
         return q;
     }
     NOBODY

@@ -10,4 +10,4 @@ returns-2 : tie.Need-returns-2
 returns-2 c = mark-no _ _ _ _ (search needs) (c .before .before .place .ensures) (c .if1 .left)
 
 pub mark-spec : {M : Type 1} → statement M
-mark-spec = tie.close (tie.spec (λ c κs. search needs) (λ c. search needs) (λ c. search needs) returns returns-2)
+mark-spec = tie.close (tie.spec (λ c κs. search needs) (λ c. search needs) (λ c. search needs) (λ c. search needs) returns returns-2)
