@@ -37,12 +37,19 @@ feed-one-requires c κs =
     let turn = tested .before in
     space-lent (turn .loop .inv .2) (turn .loop .inv .0) (tested .loop-test .taken)
 
+-- no places by `let` here: `omega` would read them too, and it enters only so many
 add-at : tie.Need-add-at Inv-loop μ-loop
 add-at c =
-    let fed = c .before .before .before .before .before .before in
-    let tested = fed .before .before .before .before in
-    let turn = tested .before in
-    omega (arith, serving-next (turn .loop .inv .2) (turn .loop .inv .0) (tested .loop-test .taken) _ _ _ (fed .feed-one .ensures) .room)
+    omega (
+      arith,
+      serving-next
+          (c .before .before .before .before .before .before .before .before .before .before .before .loop .inv .2)
+          (c .before .before .before .before .before .before .before .before .before .before .before .loop .inv .0)
+          (c .before .before .before .before .before .before .before .before .before .before .loop-test .taken)
+          _ _ _
+          (c .before .before .before .before .before .before .feed-one .ensures)
+          .room,
+    )
 
 add-i : tie.Need-add-i Inv-loop μ-loop
 add-i c = search needs
