@@ -9,20 +9,20 @@ use Rattle.lists.specs.Numbers.{all, listed}
 use Rattle.tables.specs.Boot.{boot}
 use Rattle.tables.specs.Limits.{processLimit}
 use Rattle.layout.specs.Bytes.{byteOf}
-use Rattle.layout.specs.Offsets.{orderAt}
+use Rattle.layout.specs.Offsets.{orderAt, statesAt}
 use Rattle.lists.proofs.NumberLaws.{all-at}
 
-pub first-byte : byteOf boot 0 ≡ 1
+pub first-byte : byteOf boot statesAt ≡ 1
 unfolding boot
 first-byte = refl
 
 -- the others up to the row, all computed
-all-free : all orderAt (λ i. eqb i 0 || eqb (byteOf boot i) 0) ≡ true
+all-free : all orderAt (λ i. eqb i statesAt || eqb (byteOf boot i) 0) ≡ true
 unfolding all boot
 all-free = refl
 
-pub free-byte : (i : ℕ) → 0 < i → i < orderAt → byteOf boot i ≡ 0
-free-byte i s h = eqb-true (byteOf boot i) 0 (rw (ne-eqb i 0 (omega arith)) at (all-at (λ i. eqb i 0 || eqb (byteOf boot i) 0) orderAt i all-free h))
+pub free-byte : (i : ℕ) → statesAt < i → i < orderAt → byteOf boot i ≡ 0
+free-byte i s h = eqb-true (byteOf boot i) 0 (rw (ne-eqb i statesAt (omega arith)) at (all-at (λ i. eqb i statesAt || eqb (byteOf boot i) 0) orderAt i all-free h))
 
 all-rising : all processLimit (λ i. eqb (byteOf boot (orderAt + i)) i) ≡ true
 unfolding all boot listed

@@ -3,6 +3,7 @@ use layout::offsets::NEXT_PROCESS;
 use layout::offsets::NEXT_SEMAPHORE;
 use layout::offsets::ORDER;
 use layout::offsets::SIZE;
+use layout::offsets::STATES;
 use layout::state::CURRENT;
 use tables::Tables;
 ghost use mathlib.Core.Path.{_≡_};
@@ -16,8 +17,8 @@ fn put_free(bytes: &mut [u8])
     requires { ⌜ Begun boot statesAt (now bytes) ⌝ }
     ensures { λ _. ⌜ Begun boot orderAt (now (bytes .exit)) ⌝ }
 {
-    bytes[0] = CURRENT;
-    for i in 1..ORDER {
+    bytes[STATES] = CURRENT;
+    for i in STATES + 1..ORDER {
         bytes[i] = 0;
     }
 }

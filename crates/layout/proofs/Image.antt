@@ -114,9 +114,12 @@ unfolding wellFormed
 formed-made t h =
     let st = stands-made t h in
     and-in (eq-eqb (length (toBytes t)) size (bytes-long t))
-    (and-in (all-true processLimit (stateNamed (toBytes t)) (λ p k. lt-ltb (getD (toBytes t) (statesAt + p) 0) (4 + semaphoreLimit) (rw (state-stands t (toBytes t) st p k) (state-small (stateOf t p) (h .waits p k)))))
-    (and-in (all-true semaphoreLimit (flagPlain (toBytes t)) (λ s k. lt-ltb (getD (toBytes t) (usedAt + s) 0) 2 (rw (used-stands t (toBytes t) st s k) (used-small (isUsed t s)))))
-    (all-true processLimit (placeNamed (toBytes t)) (λ i k. lt-ltb (getD (toBytes t) (orderAt + i) 0) processLimit (rw (place-read t (toBytes t) st i k) (h .row i k))))))
+    (and-in (all-true processLimit (stateNamed (toBytes t))
+    (λ p k. lt-ltb (getD (toBytes t) (statesAt + p) 0) (4 + semaphoreLimit) (rw (state-stands t (toBytes t) st p k) (state-small (stateOf t p) (h .waits p k)))))
+    (and-in (all-true semaphoreLimit (flagPlain (toBytes t))
+    (λ s k. lt-ltb (getD (toBytes t) (usedAt + s) 0) 2 (rw (used-stands t (toBytes t) st s k) (used-small (isUsed t s)))))
+    (all-true processLimit (placeNamed (toBytes t))
+    (λ i k. lt-ltb (getD (toBytes t) (orderAt + i) 0) processLimit (rw (place-read t (toBytes t) st i k) (h .row i k))))))
   where
     state-small : (s : State) → Named s → stateByte s < 4 + semaphoreLimit
     state-small Free n = omega arith

@@ -62,19 +62,23 @@ held-place t h j q hj hq =
 -- What stands at each byte after a change: a part names its own bytes, and the test that bounds it closes all others
 
 module _ (t : Tables) where
-  process-same : (p : ℕ) (x : Process) → p < length (t .processes) → (i : ℕ) → (i ≡ statesAt + p → stateByte (x .state) ≡ stateByte (stateOf t p)) → (i ≡ prioritiesAt + p → x .priority ≡ priorityOf t p) → byteOf t i ≡ byteOf (withProcess t p x) i
+  process-same : (p : ℕ) (x : Process) → p < length (t .processes) → (i : ℕ) →
+      (i ≡ statesAt + p → stateByte (x .state) ≡ stateByte (stateOf t p)) → (i ≡ prioritiesAt + p → x .priority ≡ priorityOf t p) → byteOf t i ≡ byteOf (withProcess t p x) i
   process-same p x h i state priority =
       below? i prioritiesAt (λ a. rw (lt-ltb i prioritiesAt a) (kept (t .processes) p x freeSlot h (λ (z : Process). stateByte (z .state)) (i - statesAt) (λ e. state (omega arith))))
       (λ a. below? i usedAt (λ b. rw (le-ltb i prioritiesAt a, lt-ltb i usedAt b) (kept (t .processes) p x freeSlot h (λ (z : Process). z .priority) (i - prioritiesAt) (λ e. priority (omega arith))))
       (λ b. rw (le-ltb i prioritiesAt a, le-ltb i usedAt b)))
 
-  semaphore-same : (s : ℕ) (x : Semaphore) → s < length (t .semaphores) → (i : ℕ) → (i ≡ usedAt + s → usedByte (x .used) ≡ usedByte (isUsed t s)) → ((d : ℕ) → d < 4 → i ≡ countsAt + s * 4 + d → x .count ≡ countOf t s) → byteOf t i ≡ byteOf (withSemaphore t s x) i
+  semaphore-same : (s : ℕ) (x : Semaphore) → s < length (t .semaphores) → (i : ℕ) →
+      (i ≡ usedAt + s → usedByte (x .used) ≡ usedByte (isUsed t s)) → ((d : ℕ) → d < 4 → i ≡ countsAt + s * 4 + d → x .count ≡ countOf t s) → byteOf t i ≡ byteOf (withSemaphore t s x) i
   semaphore-same s x h i used count =
       below? i usedAt (λ a. rw (lt-ltb i usedAt a))
-      (λ a. below? i countsAt (λ b. rw (le-ltb i prioritiesAt (omega arith), le-ltb i usedAt a, lt-ltb i countsAt b) (kept (t .semaphores) s x freeSemaphore h (λ (z : Semaphore). usedByte (z .used)) (i - usedAt) (λ e. used (omega arith))))
+      (λ a. below? i countsAt (λ b. rw (le-ltb i prioritiesAt (omega arith), le-ltb i usedAt a, lt-ltb i countsAt b)
+      (kept (t .semaphores) s x freeSemaphore h (λ (z : Semaphore). usedByte (z .used)) (i - usedAt) (λ e. used (omega arith))))
       (λ b. below? i orderAt (λ c. let r : (i - countsAt) / 4 * 4 + (i - countsAt) % 4 ≡ i - countsAt = div-add-mod' (i - countsAt) 4 in
       rw (le-ltb i prioritiesAt (omega arith), le-ltb i usedAt a, le-ltb i countsAt b, lt-ltb i orderAt c)
-      (kept (t .semaphores) s x freeSemaphore h (λ (z : Semaphore). wordByte (ofZ w32 (z .count)) ((i - countsAt) % 4)) ((i - countsAt) / 4) (λ e. ap (λ (c : ℤ). wordByte (ofZ w32 c) ((i - countsAt) % 4)) (count ((i - countsAt) % 4) (omega arith) (omega arith)))))
+      (kept (t .semaphores) s x freeSemaphore h (λ (z : Semaphore). wordByte (ofZ w32 (z .count)) ((i - countsAt) % 4)) ((i - countsAt) / 4)
+      (λ e. ap (λ (c : ℤ). wordByte (ofZ w32 c) ((i - countsAt) % 4)) (count ((i - countsAt) % 4) (omega arith) (omega arith)))))
       (λ c. rw (le-ltb i countsAt b, le-ltb i orderAt c))))
 
   place-same : (j q : ℕ) → j < length (t .order) → (i : ℕ) → (i ≡ orderAt + j → ⊥) → byteOf t i ≡ byteOf (withOrder t (set (t .order) j q)) i

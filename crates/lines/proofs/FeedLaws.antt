@@ -59,7 +59,8 @@ module _ (h : Held) where
   written-one c = append-nil (writtenNext h c)
 
   module _ (tables : List ℕ) (part : Part) (before after : List ℕ) where
-    pub serves-newline : tables ≡ tablesAfter (h .tables) (lineOf (h .line)) → heldIn part ≡ [] → after ≡ over (textOf (answerTo (h .tables) (lineOf (h .line)))) before → Serves h (newline ∷ []) tables (record { part = part; used = 1; written = answerLength }) before after
+    pub serves-newline : tables ≡ tablesAfter (h .tables) (lineOf (h .line)) → heldIn part ≡ [] → after ≡ over (textOf (answerTo (h .tables) (lineOf (h .line)))) before →
+        Serves h (newline ∷ []) tables (record { part = part; used = 1; written = answerLength }) before after
     unfolding heldAfter heldNext writtenNext
     serves-newline t l o =
         record { held-is = rw (t, l) refl; used-is = refl; written-is = rw (written-one newline) (sym (text-length _)); out-is = rw (written-one newline) o }

@@ -62,4 +62,8 @@ line-right cs = split (eqb (length cs) 18) (λ e. rw e (right (eqb-true (length 
 
     right : length cs ≡ 18 → isRequest (requestOf (fieldOf (take 2 cs)) (fieldOf (take 8 (drop 2 cs))) (fieldOf (take 8 (drop 10 cs)))) ≡ allDigits cs
     right e =
-        rw (request-right (fieldOf (take 2 cs)) (fieldOf (take 8 (drop 2 cs))) (fieldOf (take 8 (drop 10 cs))), field-right (take 2 cs) (short 2 cs (omega arith)), field-right (take 8 (drop 2 cs)) (short 8 (drop 2 cs) (omega arith)), field-right (take 8 (drop 10 cs)) (short 8 (drop 10 cs) (omega arith)), ← digits-append (take 8 (drop 2 cs)) (take 8 (drop 10 cs)), ← digits-append (take 2 cs) (take 8 (drop 2 cs) ++ take 8 (drop 10 cs)), three-parts cs e)
+        let call = take 2 cs in
+        let a = take 8 (drop 2 cs) in
+        let b = take 8 (drop 10 cs) in
+        rw (request-right (fieldOf call) (fieldOf a) (fieldOf b), field-right call (short 2 cs (omega arith)), field-right a (short 8 (drop 2 cs) (omega arith)), field-right b (short 8 (drop 10 cs) (omega arith)))
+        (rw (← digits-append a b, ← digits-append call (a ++ b), three-parts cs e))

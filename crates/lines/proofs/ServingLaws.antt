@@ -98,7 +98,8 @@ module _ {h₀ : Held} {cs out₀ : List ℕ} {h : Held} {out : List ℕ} {at i 
       rest = over-drop text out at enough ∙ sym (drop-drop (length text) at out) ∙ ap (drop (length text)) (s .rest) ∙ drop-drop (length text) at out₀;
     }
 
-    pub serving-next : (tables : List ℕ) (fed : Fed) (given : List ℕ) → Serves h (c ∷ []) tables fed (midOf at (length out - at) out) given → Serving h₀ cs out₀ (holding tables (fed .part)) (putMid at (length out - at) out given) (at + fed .written) (i + 1)
+    pub serving-next : (tables : List ℕ) (fed : Fed) (given : List ℕ) → Serves h (c ∷ []) tables fed (midOf at (length out - at) out) given →
+        Serving h₀ cs out₀ (holding tables (fed .part)) (putMid at (length out - at) out given) (at + fed .written) (i + 1)
     unfolding heldAfter
     serving-next tables fed given one =
         let inside : at ≤ length out = omega (arith, space more) in

@@ -106,7 +106,9 @@ unfolding writtenOver heldAfter ending answersTo linesOf
 whole-answers bytes line [] = split (isEmpty line) (λ e. rw (empty-held line, e)) (λ e. rw (empty-held line, e, ended-written bytes line))
 whole-answers bytes line (c ∷ cs) = whole-next (holds bytes line) c cs ∙ go (eqb c newline) refl (whole-answers (tablesAfter bytes (lineOf line)) [] cs) (whole-answers bytes (line ++ c ∷ []) cs)
   where
-    go : (b : Bool) → eqb c newline ≡ b → whole (holds (tablesAfter bytes (lineOf line)) []) cs ≡ answersTo (tablesAfter bytes (lineOf line)) (begun [] (linesOf cs)) → whole (holds bytes (line ++ c ∷ [])) cs ≡ answersTo bytes (begun (line ++ c ∷ []) (linesOf cs)) → writtenNext (holds bytes line) c ++ whole (heldNext (holds bytes line) c) cs ≡ answersTo bytes (begun line (if b then [] ∷ linesOf cs else before c (linesOf cs)))
+    go : (b : Bool) → eqb c newline ≡ b → whole (holds (tablesAfter bytes (lineOf line)) []) cs ≡ answersTo (tablesAfter bytes (lineOf line)) (begun [] (linesOf cs)) →
+        whole (holds bytes (line ++ c ∷ [])) cs ≡ answersTo bytes (begun (line ++ c ∷ []) (linesOf cs)) →
+        writtenNext (holds bytes line) c ++ whole (heldNext (holds bytes line) c) cs ≡ answersTo bytes (begun line (if b then [] ∷ linesOf cs else before c (linesOf cs)))
     go true e ends on = rw (eqb-true c newline e, ended-held bytes line, ended-written bytes line, ends, begun-none (linesOf cs), append-nil line)
     go false e ends on = rw (more-held bytes line c e, more-written bytes line c e, on, begun-more line c (linesOf cs))
 

@@ -1,4 +1,4 @@
--- The call's own statement, with the argument read back from its bits.
+-- The call's own statement, with the argument read back from its bits. Assumes nothing.
 use mathlib.Core.Path.{ap}
 use mir.Syntax.{w32}
 use mir.ValLaws.{toZ-ofZ}

@@ -28,20 +28,23 @@ slice-write-tables c = search needs
 slice-write-tables-2 : tie.Need-slice-write-tables-2
 slice-write-tables-2 c =
     let put-row = c .before .before .put-row in
-    let l : length (put-row .last .0) ≡ size = put-row .ensures .long in simp length-set (omega arith)
+    let l : length (put-row .last .0) ≡ size = put-row .ensures .long in
+    simp length-set (omega arith)
 
 same-length : tie.Need-same-length
 same-length c =
     let if1 = c .before .before .before .before .before .before .before .before .if1 in
     let put-row = c .before .before .put-row in
-    let l : length (put-row .last .0) ≡ size = put-row .ensures .long in simp length-set (l ∙ sym (if1 .left))
+    let l : length (put-row .last .0) ≡ size = put-row .ensures .long in
+    simp length-set (l ∙ sym (if1 .left))
 
 returns-2 : tie.Need-returns-2
 unfolding boot bootAnswer booted
 returns-2 c =
     let if1 = c .before .before .before .before .before .before .before .before .if1 in
     let e = eq-eqb _ size (if1 .left) in
-    let whole = begun-all boot _ _ refl (begun-next boot nextProcessAt _ 1 (begun-next boot nextSemaphoreAt _ 0 (c .before .before .put-row .ensures) (omega arith) refl) (omega arith) refl) in
+    let semaphore = begun-next boot nextSemaphoreAt _ 0 (c .before .before .put-row .ensures) (omega arith) refl in
+    let whole = begun-all boot _ _ refl (begun-next boot nextProcessAt _ 1 semaphore (omega arith) refl) in
     (sym (rw e), whole ∙ sym (rw e))
 
 pub cottonsedge-boot-spec : {M : Type 1} → statement M

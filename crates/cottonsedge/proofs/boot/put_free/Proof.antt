@@ -1,17 +1,18 @@
+-- The first byte, then each turn one free byte more behind what stands. Assumes nothing.
 use Prim.Native.Nat.{_-_, _<_, _≤_}
 use native.Mathlib.Omega.{arith}
 use mathlib.Core.Path.{_∙_, _≡_, sym}
 use borrow.Author.Needs.{needs}
 use Rattle.tables.specs.Boot.{boot}
 use Rattle.layout.specs.Begun.{Begun}
-use Rattle.layout.specs.Offsets.{orderAt}
+use Rattle.layout.specs.Offsets.{orderAt, statesAt}
 use Rattle.layout.proofs.BegunLaws.{begun-at, begun-next}
 use Rattle.cottonsedge.proofs.BootBytes.{first-byte, free-byte}
 use Rattle.cottonsedge.proofs.boot.put_free.Statement.{statement}
 use Rattle.cottonsedge.proofs.boot.put_free.Tie as tie
 
 abbrev Inv-loop : tie.InvT-loop
-Inv-loop bytes₀ i₀ bytes i = (0 < i) × (i ≤ orderAt) × Begun boot i bytes
+Inv-loop bytes₀ i₀ bytes i = (statesAt < i) × (i ≤ orderAt) × Begun boot i bytes
 
 abbrev μ-loop : tie.MeasureT-loop
 μ-loop bytes₀ i₀ bytes i = orderAt - i
@@ -19,14 +20,17 @@ abbrev μ-loop : tie.MeasureT-loop
 slice-write-bytes : tie.Need-slice-write-bytes Inv-loop μ-loop
 slice-write-bytes c = let l = c .pre .long in omega arith
 
+add-i : tie.Need-add-i Inv-loop μ-loop
+add-i c = search needs
+
 loop-holds : tie.Need-loop-holds Inv-loop μ-loop
-loop-holds c = (search needs, search needs, begun-next boot 0 _ 1 (c .pre) (omega arith) (sym first-byte))
+loop-holds c = (search needs, search needs, begun-next boot statesAt _ 1 (c .pre) (omega arith) (sym first-byte))
 
 slice-write-bytes-2 : tie.Need-slice-write-bytes-2 Inv-loop μ-loop
 slice-write-bytes-2 c = let l = c .before .loop .inv .2 .long in omega arith
 
-add-i : tie.Need-add-i Inv-loop μ-loop
-add-i c = search needs
+add-i-2 : tie.Need-add-i-2 Inv-loop μ-loop
+add-i-2 c = search needs
 
 loop-less : tie.Need-loop-less Inv-loop μ-loop
 loop-less c = search needs
@@ -49,9 +53,10 @@ put-free-spec =
     Inv-loop
     μ-loop
     slice-write-bytes
+    add-i
     loop-holds
     slice-write-bytes-2
-    add-i
+    add-i-2
     loop-less
     loop-again
     same-length

@@ -1,3 +1,4 @@
+-- Each turn writes one place more, behind what stands. Assumes nothing.
 use Prim.Native.Nat.{_+_, _-_, _≤_}
 use native.Mathlib.Omega.{arith}
 use mathlib.Core.Path.{_∙_, _≡_, sym}
@@ -38,7 +39,8 @@ loop-less c = search needs
 loop-again : tie.Need-loop-again Inv-loop μ-loop
 loop-again c =
     let i = c .before .loop .i in
-    (search needs, begun-at boot (orderAt + i + 1) (orderAt + (i + 1)) _ (omega arith) (begun-next boot (orderAt + i) _ i (c .before .loop .inv .1) (omega arith) (sym (row-byte i (omega arith)))))
+    let next = begun-next boot (orderAt + i) _ i (c .before .loop .inv .1) (omega arith) (sym (row-byte i (omega arith))) in
+    (search needs, begun-at boot (orderAt + i + 1) (orderAt + (i + 1)) _ (omega arith) next)
 
 same-length : tie.Need-same-length Inv-loop μ-loop
 same-length c = c .before .loop .inv .1 .long ∙ sym (c .before .before .pre .long)

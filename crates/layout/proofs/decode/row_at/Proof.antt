@@ -42,7 +42,8 @@ loop-again c =
     let i = loop .i in
     let k = args .k in
     let inv = loop .inv in
-    (search needs, simp length-set (inv .1), listed-next (λ (j : ℕ). getD bs (k + j) 0) processLimit (loop .row) (inv .1) i 0 _ (inv .2) (omega arith) refl, search needs)
+    let next = listed-next (λ (j : ℕ). getD bs (k + j) 0) processLimit (loop .row) (inv .1) i 0 _ (inv .2) (omega arith) refl in
+    (search needs, simp length-set (inv .1), next, search needs)
 
 returns : tie.Need-returns Inv-loop μ-loop
 returns c =

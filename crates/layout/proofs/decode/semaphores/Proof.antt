@@ -43,7 +43,8 @@ loop-again c =
     let loop = c .before .before .loop in
     let i = loop .i in
     let inv = loop .inv in
-    (search needs, simp length-set (inv .1), listed-next (semaphoreAt bs) semaphoreLimit (loop .entries) (inv .1) i freeSemaphore _ (inv .2) (omega arith) (c .semaphore-at .ensures), search needs)
+    let next = listed-next (semaphoreAt bs) semaphoreLimit (loop .entries) (inv .1) i freeSemaphore _ (inv .2) (omega arith) (c .semaphore-at .ensures) in
+    (search needs, simp length-set (inv .1), next, search needs)
 
 returns : tie.Need-returns Inv-loop μ-loop
 returns c =

@@ -1,4 +1,4 @@
--- By the two cases of a line.
+-- By the two cases of a line. Assumes nothing.
 use mathlib.Core.Path.{_∙_, refl, sym}
 use lib.IntN.{ℤ}
 use mir.Syntax.{w32}

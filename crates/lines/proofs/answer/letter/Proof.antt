@@ -1,4 +1,4 @@
--- By the test of the rule.
+-- By the test of the rule. Assumes nothing.
 use borrow.Author.Tests.{lt-ltb, le-ltb}
 use Rattle.lines.specs.Hex.{letterOf}
 use borrow.Author.Needs.{needs}

@@ -1,4 +1,4 @@
--- The digits that are left, before those that stand, are all digits before the newline.
+-- The digits that are left, before those that stand, are all digits before the newline. Assumes nothing.
 use Prim.Native.Nat.{suc, _-_, _≤_, _<_}
 use native.Mathlib.Omega.{arith}
 use mathlib.Core.Path.{_≡_, refl, _∙_}

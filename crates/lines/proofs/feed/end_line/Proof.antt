@@ -1,4 +1,4 @@
--- A count past the array holds what the whole array does.
+-- A count past the array holds what the whole array does. Assumes nothing.
 use Prim.Native.Nat.{_≤_}
 use native.Mathlib.Omega.{arith}
 use mathlib.Core.Path.{_≡_, sym, _∙_}

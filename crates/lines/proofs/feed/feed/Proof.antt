@@ -1,4 +1,4 @@
--- The part that is passed on is what is taken, and there is room for it.
+-- The part that is passed on is what is taken, and there is room for it. Assumes nothing.
 use Prim.Native.Nat.{_/_}
 use native.Mathlib.Omega.{arith}
 use mathlib.Core.Path.{sym}

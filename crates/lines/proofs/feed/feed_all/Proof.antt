@@ -1,4 +1,4 @@
--- What stands after i characters is kept by the next; see ServingLaws.
+-- What stands after i characters is kept by the next; see ServingLaws. Assumes nothing.
 use Prim.Native.Nat.{_-_, _*_, _≤_}
 use native.Mathlib.Omega.{arith}
 use mathlib.Core.Path.{_≡_, refl, _∙_}
@@ -37,19 +37,17 @@ feed-one-requires c κs =
     let turn = tested .before in
     space-lent (turn .loop .inv .2) (turn .loop .inv .0) (tested .loop-test .taken)
 
+-- no places by `let` here: `omega` would read them too, and it enters only so many
 add-at : tie.Need-add-at Inv-loop μ-loop
 add-at c =
-    let loop = c .before .before .before .before .before .before .before .before .before .before .before .loop in
-    let loop-test = c .before .before .before .before .before .before .before .before .before .before .loop-test in
-    let feed-one = c .before .before .before .before .before .before .feed-one in
     omega (
       arith,
       serving-next
-          (loop .inv .2)
-          (loop .inv .0)
-          (loop-test .taken)
+          (c .before .before .before .before .before .before .before .before .before .before .before .loop .inv .2)
+          (c .before .before .before .before .before .before .before .before .before .before .before .loop .inv .0)
+          (c .before .before .before .before .before .before .before .before .before .before .loop-test .taken)
           _ _ _
-          (feed-one .ensures)
+          (c .before .before .before .before .before .before .feed-one .ensures)
           .room,
     )
 
@@ -61,10 +59,11 @@ loop-less c = search needs
 
 loop-again : tie.Need-loop-again Inv-loop μ-loop
 loop-again c =
-    let at-feed-one = c .before .before .before .before .before .before in
-    let tested = at-feed-one .before .before .before .before in
+    let fed = c .before .before .before .before .before .before in
+    let tested = fed .before .before .before .before in
     let turn = tested .before in
-    (turn .loop .inv .0, at-feed-one .feed-one .kept .0 ∙ turn .loop .inv .1, serving-next (turn .loop .inv .2) (turn .loop .inv .0) (tested .loop-test .taken) _ _ _ (at-feed-one .feed-one .ensures))
+    let next = serving-next (turn .loop .inv .2) (turn .loop .inv .0) (tested .loop-test .taken) _ _ _ (fed .feed-one .ensures) in
+    (turn .loop .inv .0, fed .feed-one .kept .0 ∙ turn .loop .inv .1, next)
 
 same-length : tie.Need-same-length Inv-loop μ-loop
 same-length c = c .before .loop .inv .1

@@ -1,4 +1,4 @@
--- A newline, or another character.
+-- A newline, or another character. Assumes nothing.
 use borrow.Author.Tests.{ne-eqb}
 use Rattle.lines.specs.Feed.{holding}
 use Rattle.lines.proofs.FeedLaws.{serves-other}

@@ -1,4 +1,4 @@
--- The part of the newline that is fed is the ending of the line.
+-- The part of the newline that is fed is the ending of the line. Assumes nothing.
 use Prim.Native.Nat.{_≤_}
 use native.Mathlib.Omega.{arith}
 use mathlib.Core.Path.{_≡_, sym}

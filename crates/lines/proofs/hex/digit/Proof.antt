@@ -1,4 +1,4 @@
--- Each test tells which of the four cases it is.
+-- Each test tells which of the four cases it is. Assumes nothing.
 use native.Mathlib.Omega.{arith}
 use mathlib.Core.Path.{sym, _∙_}
 use Rattle.lines.specs.Hex.{digitOf}

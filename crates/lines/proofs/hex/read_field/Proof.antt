@@ -1,4 +1,4 @@
--- What is left reads on, behind the number so far, as the whole does; i digits make a number below 16 ^ i.
+-- What is left reads on, behind the number so far, as the whole does; i digits make a number below 16 ^ i. Assumes nothing.
 use Prim.Native.Nat.{_-_, _^_, _≤_, _<_}
 use native.Mathlib.Omega.{arith}
 use mathlib.Core.Path.{_≡_, refl, sym, _∙_}

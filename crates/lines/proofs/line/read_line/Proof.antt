@@ -1,4 +1,4 @@
--- The three parts of the line are the three fields of the rule.
+-- The three parts of the line are the three fields of the rule. Assumes nothing.
 use native.Mathlib.Omega.{arith}
 use mathlib.Core.Path.{sym, _∙_}
 use lib.ListN.{take, length-take}

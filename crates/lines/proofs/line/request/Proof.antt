@@ -1,4 +1,4 @@
--- A call of two digits fits a byte; the arguments come back from their bits.
+-- A call of two digits fits a byte; the arguments come back from their bits. Assumes nothing.
 use mir.ValLaws.{toZ-ofZ}
 use mir.Syntax.{w32}
 use borrow.Author.Needs.{needs}
@@ -49,7 +49,10 @@ returns-4 c =
     let at-b = c .before .before .before in
     let at-a = at-b .before .before .before in
     let at-call = at-a .before .before .before in
-    rw (toZ-ofZ w32 (c .before .signed .result) (record { sfits = c .before .signed .ok }), toZ-ofZ w32 (c .signed2 .result) (record { sfits = c .signed2 .ok }), c .before .signed .ensures, c .signed2 .ensures, at-call .call .given .1, at-a .a .given .1, at-b .b .given .1)
+    let a = c .before .signed in
+    let b = c .signed2 in
+    rw (toZ-ofZ w32 (a .result) (record { sfits = a .ok }), toZ-ofZ w32 (b .result) (record { sfits = b .ok }), a .ensures, b .ensures)
+    (rw (at-call .call .given .1, at-a .a .given .1, at-b .b .given .1))
 
 pub request-spec : {M : Type 1} → statement M
 request-spec =

@@ -1,4 +1,4 @@
--- There is place for the character, or 19 are held already.
+-- There is place for the character, or 19 are held already. Assumes nothing.
 use Rattle.lines.proofs.FeedLaws.{held-more, held-full}
 use borrow.Author.Needs.{needs}
 use Rattle.lines.proofs.feed.Part.with.Statement.{statement}
