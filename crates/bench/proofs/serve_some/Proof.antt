@@ -48,8 +48,10 @@ expect-requires c κs =
     let to-feed = at-feed .before in
     let to-count = to-feed .before .before .before .before in
     let read = at-count .count .ensures .0 in
-    let all = taken-all _ _ (omega (arith, read .0, read .1, slice-aggregate-count to-count, slice-aggregate-feed-2 to-feed)) in
-    eq-eqb _ _ (at-feed .feed .ensures .0 .used-is ∙ ap length all ∙ sym (read .1))
+    eq-eqb _ _
+    (at-feed .feed .ensures .0 .used-is
+    ∙ ap length (taken-all _ _ (omega (arith, read .0, read .1, slice-aggregate-count to-count, slice-aggregate-feed-2 to-feed)))
+    ∙ sym (read .1))
 
 array-share-prefix-out : tie.Need-array-share-prefix-out
 array-share-prefix-out c = search needs
