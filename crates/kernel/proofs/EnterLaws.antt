@@ -1,5 +1,5 @@
 -- A call by its number: 13, 14, or the call. Assumes nothing.
-use Prim.Native.Nat.{_<_, _≤_, ℕ}
+use Prim.Native.Nat.{_+_, _<_, _≤_, ℕ}
 use native.Mathlib.Omega.{arith}
 use mathlib.Core.Bool.{Bool, _&&_, _||_, false, not, true}
 use mathlib.Core.List.{List}
@@ -9,7 +9,7 @@ use lib.IntN.{ℤ}
 use mir.Syntax.{w32}
 use mir.Val.{SFits, ofZ, toZ}
 use mir.ValLaws.{toZ-ofZ}
-use Rattle.rules.specs.Calls.{Call, Reset, Yield, step}
+use Rattle.rules.specs.Calls.{Call, Reset, step}
 use Rattle.rules.specs.Enter.{both, first, formOf, isZero, neither, numbered}
 use Rattle.kernel.specs.Steps.{Leads}
 use Rattle.kernel.specs.declared.step.Step.{Step}
@@ -43,24 +43,27 @@ module _ (n : ℕ) (a b : ℤ) (fa : SFits w32 a) (fb : SFits w32 b) (x : List �
       alike (λ t. numbered t n a b) (λ t. step t (Reset a b)) x y r (λ t st. rw is (number-goes t a b 5 (both Reset) refl refl))
       (subst (λ (z : ℤ). Leads (λ t. step t (Reset a z)) x y r) (toZ-ofZ w32 b fb) (subst (λ (z : ℤ). Leads (λ t. step t (Reset z b′)) x y r) (toZ-ofZ w32 a fa) m))
 
-  -- a yield uses neither
-  module _ (is : n ≡ 10) (u v : Bool) (ea : u ≡ isZero a′) (eb : v ≡ isZero b′) where
-    spared : (k : Bool) → (u && v) ≡ k → (not (isZero a) || not (isZero b)) ≡ not k
-    spared k h =
-        let e : (isZero a && isZero b) ≡ k = rw (zero a fa u u ea refl, zero b fb v v eb refl) h in
+  -- a call of neither
+  module _ (k : ℕ) (call : Call) (line : formOf k ≡ some (neither call)) (is : n ≡ k) (u v : Bool) (ea : u ≡ isZero a′) (eb : v ≡ isZero b′) where
+    spared : (w : Bool) → (u && v) ≡ w → (not (isZero a) || not (isZero b)) ≡ not w
+    spared w h =
+        let e : (isZero a && isZero b) ≡ w = rw (zero a fa u u ea refl, zero b fb v v eb refl) h in
         either-not (isZero a) (isZero b) ∙ ap not e
       where
         either-not : (p q : Bool) → (not p || not q) ≡ not (p && q)
         either-not true q = refl
         either-not false q = refl
 
-    pub yield-goes : (u && v) ≡ true → (y : List ℕ) (r : Step) → Leads (λ t. step t Yield) x y r → Leads (λ t. numbered t n a b) x y r
-    yield-goes h y r = alike (λ t. numbered t n a b) (λ t. step t Yield) x y r (λ t st. rw is (number-goes t a b 10 (neither Yield) refl (spared true h)))
+    pub neither-goes : (u && v) ≡ true → (y : List ℕ) (r : Step) → Leads (λ t. step t call) x y r → Leads (λ t. numbered t n a b) x y r
+    neither-goes h y r = alike (λ t. numbered t n a b) (λ t. step t call) x y r (λ t st. rw is (number-goes t a b k (neither call) line (spared true h)))
 
-    pub yield-14 : (u && v) ≡ false → Leads (λ t. numbered t n a b) x x (Refused 14)
-    yield-14 h = refuses (λ t. numbered t n a b) 14 x (λ t st S. rw is (number-spare t a b 10 (neither Yield) refl (spared false h)))
+    pub neither-14 : (u && v) ≡ false → Leads (λ t. numbered t n a b) x x (Refused 14)
+    neither-14 h = refuses (λ t. numbered t n a b) 14 x (λ t st S. rw is (number-spare t a b k (neither call) line (spared false h)))
 
 -- 01 to 0b have their calls; the others are unknown
+
+next : (n k : ℕ) → k ≤ n → (n ≡ k → ⊥) → k + 1 ≤ n
+next n k h d = omega arith
 
 module _ (n : ℕ) (a b : ℤ) (bs : List ℕ) where
   unknown : formOf n ≡ none → Leads (λ t. numbered t n a b) bs bs (Refused 13)
@@ -70,7 +73,7 @@ module _ (n : ℕ) (a b : ℤ) (bs : List ℕ) where
   low-13 h n1 n2 n3 n4 n5 = let z : n ≡ 0 = omega arith in unknown (rw z refl)
 
   pub high-13 : 6 ≤ n → (n ≡ 6 → ⊥) → (n ≡ 7 → ⊥) → (n ≡ 8 → ⊥) → (n ≡ 9 → ⊥) → (n ≡ 10 → ⊥) → (n ≡ 11 → ⊥) → Leads (λ t. numbered t n a b) bs bs (Refused 13)
-  high-13 h n6 n7 n8 n9 n10 n11 = unknown (number-past n (omega arith))
+  high-13 h n6 n7 n8 n9 n10 n11 = unknown (number-past n (next n 11 (next n 10 (next n 9 (next n 8 (next n 7 (next n 6 h n6) n7) n8) n9) n10) n11))
 
 -- a call handed on with its arguments
 pub handed-on : (n : ℕ) (a b : ℤ) → SFits w32 a → SFits w32 b → (x y : List ℕ) (r : Step) → Leads (λ t. numbered t n (toZ w32 (ofZ w32 a)) (toZ w32 (ofZ w32 b))) x y r → Leads (λ t. numbered t n a b) x y r

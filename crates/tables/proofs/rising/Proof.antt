@@ -16,21 +16,6 @@ Inv-loop order₀ i₀ order i = (i ≤ processLimit) × (length order ≡ proce
 abbrev μ-loop : tie.MeasureT-loop
 μ-loop order₀ i₀ order i = processLimit - i
 
-loop-holds : tie.Need-loop-holds Inv-loop μ-loop
-loop-holds c = search needs
-
-cast-order : tie.Need-cast-order Inv-loop μ-loop
-cast-order c = search needs
-
-array-write-order : tie.Need-array-write-order Inv-loop μ-loop
-array-write-order c = search needs
-
-add-i : tie.Need-add-i Inv-loop μ-loop
-add-i c = search needs
-
-loop-less : tie.Need-loop-less Inv-loop μ-loop
-loop-less c = search needs
-
 loop-again : tie.Need-loop-again Inv-loop μ-loop
 loop-again c =
     let i = c .before .loop .i in
@@ -50,10 +35,10 @@ rising-spec =
     (tie.spec
     Inv-loop
     μ-loop
-    loop-holds
-    cast-order
-    array-write-order
-    add-i
-    loop-less
+    (λ c. search needs)
+    (λ c. search needs)
+    (λ c. search needs)
+    (λ c. search needs)
+    (λ c. search needs)
     loop-again
     returns)

@@ -8,18 +8,6 @@ use Rattle.cottonsedge.specs.Fields.{joined}
 use Rattle.cottonsedge.proofs.answer.pack.Statement.{statement}
 use Rattle.cottonsedge.proofs.answer.pack.Tie as tie
 
-enum-known-answer : tie.Need-enum-known-answer
-enum-known-answer c = search needs
-
-fields-requires : tie.Need-fields-requires
-fields-requires c κs = search needs
-
-enum-known-answer-2 : tie.Need-enum-known-answer-2
-enum-known-answer-2 c = search needs
-
-fields-requires-2 : tie.Need-fields-requires-2
-fields-requires-2 c κs = search needs
-
 returns : tie.Need-returns
 returns c =
     let args = c .before .before .before .before .args in
@@ -34,9 +22,9 @@ pub pack-spec : {M : Type 1} → statement M
 pack-spec =
     tie.close
     (tie.spec
-    enum-known-answer
-    fields-requires
-    enum-known-answer-2
-    fields-requires-2
+    (λ c. search needs)
+    (λ c κs. search needs)
+    (λ c. search needs)
+    (λ c κs. search needs)
     returns
     returns-2)

@@ -16,15 +16,6 @@ returns c =
     let e = ne-eqb _ size (c .if1 .taken) in
     (sym (rw e), sym (rw e))
 
-put-free-requires : tie.Need-put-free-requires
-put-free-requires c κs = search needs
-
-put-row-requires : tie.Need-put-row-requires
-put-row-requires c κs = search needs
-
-slice-write-tables : tie.Need-slice-write-tables
-slice-write-tables c = search needs
-
 slice-write-tables-2 : tie.Need-slice-write-tables-2
 slice-write-tables-2 c =
     let put-row = c .before .before .put-row in
@@ -52,9 +43,9 @@ cottonsedge-boot-spec =
     tie.close
     (tie.spec
     returns
-    put-free-requires
-    put-row-requires
-    slice-write-tables
+    (λ c κs. search needs)
+    (λ c κs. search needs)
+    (λ c. search needs)
     slice-write-tables-2
     same-length
     returns-2)

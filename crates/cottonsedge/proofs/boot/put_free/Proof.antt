@@ -20,20 +20,11 @@ abbrev μ-loop : tie.MeasureT-loop
 slice-write-bytes : tie.Need-slice-write-bytes Inv-loop μ-loop
 slice-write-bytes c = let l = c .pre .long in omega arith
 
-add-i : tie.Need-add-i Inv-loop μ-loop
-add-i c = search needs
-
 loop-holds : tie.Need-loop-holds Inv-loop μ-loop
 loop-holds c = (search needs, search needs, begun-next boot statesAt _ 1 (c .pre) (omega arith) (sym first-byte))
 
 slice-write-bytes-2 : tie.Need-slice-write-bytes-2 Inv-loop μ-loop
 slice-write-bytes-2 c = let l = c .before .loop .inv .2 .long in omega arith
-
-add-i-2 : tie.Need-add-i-2 Inv-loop μ-loop
-add-i-2 c = search needs
-
-loop-less : tie.Need-loop-less Inv-loop μ-loop
-loop-less c = search needs
 
 loop-again : tie.Need-loop-again Inv-loop μ-loop
 loop-again c = (search needs, search needs, begun-next boot (c .before .loop .i) _ 0 (c .before .loop .inv .2) (omega arith) (sym (free-byte (c .before .loop .i) (omega arith) (omega arith))))
@@ -53,11 +44,11 @@ put-free-spec =
     Inv-loop
     μ-loop
     slice-write-bytes
-    add-i
+    (λ c. search needs)
     loop-holds
     slice-write-bytes-2
-    add-i-2
-    loop-less
+    (λ c. search needs)
+    (λ c. search needs)
     loop-again
     same-length
     returns)

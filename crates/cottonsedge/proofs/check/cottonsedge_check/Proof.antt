@@ -4,9 +4,6 @@ use Rattle.cottonsedge.specs.Entries.{checkAnswer}
 use Rattle.cottonsedge.proofs.check.cottonsedge_check.Statement.{statement}
 use Rattle.cottonsedge.proofs.check.cottonsedge_check.Tie as tie
 
-is-sound-requires : tie.Need-is-sound-requires
-is-sound-requires c κs = search needs
-
 returns : tie.Need-returns
 unfolding checkAnswer
 returns c = sym (rw (sym (c .before .is-sound .ensures) ∙ c .if1 .taken))
@@ -16,4 +13,4 @@ unfolding checkAnswer
 returns-2 c = sym (rw (sym (c .before .is-sound .ensures) ∙ c .if1 .left))
 
 pub cottonsedge-check-spec : {M : Type 1} → statement M
-cottonsedge-check-spec = tie.close (tie.spec is-sound-requires returns returns-2)
+cottonsedge-check-spec = tie.close (tie.spec (λ c κs. search needs) returns returns-2)

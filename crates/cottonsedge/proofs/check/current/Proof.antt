@@ -8,9 +8,6 @@ use Rattle.cottonsedge.proofs.check.current.Statement.{statement}
 use Rattle.cottonsedge.proofs.Standing.{good-formed, good-sound, running-is, running-small}
 use Rattle.cottonsedge.proofs.check.current.Tie as tie
 
-is-sound-requires : tie.Need-is-sound-requires
-is-sound-requires c κs = search needs
-
 returns : tie.Need-returns
 unfolding currentByte
 returns c = sym (rw (sym (c .before .is-sound .ensures) ∙ not-true _ (c .if1 .taken)))
@@ -31,4 +28,4 @@ returns-2 c =
 
 pub current-spec : {M : Type 1} → statement M
 current-spec =
-    tie.close (tie.spec is-sound-requires returns current-requires cast-result returns-2)
+    tie.close (tie.spec (λ c κs. search needs) returns current-requires cast-result returns-2)

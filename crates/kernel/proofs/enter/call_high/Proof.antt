@@ -1,9 +1,9 @@
 -- Each arm is its number's call, or 14. Assumes nothing.
 use mathlib.Core.Path.{refl}
 use borrow.Author.Needs.{needs}
-use Rattle.rules.specs.Calls.{Count, Kill, MakeProcess, Resume, Suspend}
+use Rattle.rules.specs.Calls.{Count, Kill, MakeProcess, Resume, Suspend, Yield}
 use Rattle.kernel.proofs.enter.call_high.Statement.{statement}
-use Rattle.kernel.proofs.EnterLaws.{high-13, unary-14, unary-goes, yield-14, yield-goes}
+use Rattle.kernel.proofs.EnterLaws.{high-13, neither-14, neither-goes, unary-14, unary-goes}
 use Rattle.kernel.proofs.enter.call_high.Tie as tie
 
 returns : tie.Need-returns
@@ -49,12 +49,12 @@ returns-8 c =
 returns-9 : tie.Need-returns-9
 returns-9 c =
     let start = c .before .before .before .before .before .before .before in
-    λ high. yield-goes _ (start .args .a) (start .args .b) (start .fits .a) (start .fits .b) _ (c .before .before .before .before .before .match .keys5) _ _ (c .before .before .before .before .is-zero5 .ensures) (c .before .before .before .is-zero6 .ensures) (c .before .before .if5 .taken) _ _ (c .yields .ensures)
+    λ high. neither-goes _ (start .args .a) (start .args .b) (start .fits .a) (start .fits .b) _ 10 Yield refl (c .before .before .before .before .before .match .keys5) _ _ (c .before .before .before .before .is-zero5 .ensures) (c .before .before .before .is-zero6 .ensures) (c .before .before .if5 .taken) _ _ (c .yields .ensures)
 
 returns-10 : tie.Need-returns-10
 returns-10 c =
     let start = c .before .before .before .before .before in
-    λ high. yield-14 _ (start .args .a) (start .args .b) (start .fits .a) (start .fits .b) _ (c .before .before .before .match .keys5) _ _ (c .before .before .is-zero5 .ensures) (c .before .is-zero6 .ensures) (c .if5 .left)
+    λ high. neither-14 _ (start .args .a) (start .args .b) (start .fits .a) (start .fits .b) _ 10 Yield refl (c .before .before .before .match .keys5) _ _ (c .before .before .is-zero5 .ensures) (c .before .is-zero6 .ensures) (c .if5 .left)
 
 returns-11 : tie.Need-returns-11
 returns-11 c =

@@ -28,27 +28,6 @@ abbrev μ-loop : tie.MeasureT-loop
 loop-holds : tie.Need-loop-holds Inv-loop μ-loop
 loop-holds c = none-written _ _ (search needs)
 
-sub-x : tie.Need-sub-x Inv-loop μ-loop
-sub-x c = search needs
-
-mul-x : tie.Need-mul-x Inv-loop μ-loop
-mul-x c = search needs
-
-element-copy-out-x : tie.Need-element-copy-out-x Inv-loop μ-loop
-element-copy-out-x c = search needs
-
-state-byte-requires : tie.Need-state-byte-requires Inv-loop μ-loop
-state-byte-requires c κs = search needs
-
-slice-write-bytes : tie.Need-slice-write-bytes Inv-loop μ-loop
-slice-write-bytes c = search needs
-
-add-i : tie.Need-add-i Inv-loop μ-loop
-add-i c = search needs
-
-loop-less : tie.Need-loop-less Inv-loop μ-loop
-loop-less c = search needs
-
 loop-again : tie.Need-loop-again Inv-loop μ-loop
 loop-again c =
     let t = c .before .before .before .before .before .before .args .t2 in
@@ -56,21 +35,6 @@ loop-again c =
     let i = loop .i in
     let same = c .state-byte .ensures ∙ sym (state-byte t (i - statesAt) i (omega arith) (omega arith)) in
     byte-written t (loop .bytes) i _ (loop .inv) (omega arith) same (λ lo hi. omega arith)
-
-mul-x-2 : tie.Need-mul-x-2 Inv-loop μ-loop
-mul-x-2 c = search needs
-
-element-copy-out-x-2 : tie.Need-element-copy-out-x-2 Inv-loop μ-loop
-element-copy-out-x-2 c = search needs
-
-slice-write-bytes-2 : tie.Need-slice-write-bytes-2 Inv-loop μ-loop
-slice-write-bytes-2 c = search needs
-
-add-i-2 : tie.Need-add-i-2 Inv-loop μ-loop
-add-i-2 c = search needs
-
-loop-less-2 : tie.Need-loop-less-2 Inv-loop μ-loop
-loop-less-2 c = search needs
 
 loop-again-2 : tie.Need-loop-again-2 Inv-loop μ-loop
 loop-again-2 c =
@@ -80,24 +44,6 @@ loop-again-2 c =
     let same = sym (priority-byte t (i - prioritiesAt) i (omega arith) (omega arith)) in
     byte-written t (loop .bytes) i _ (loop .inv) (omega arith) same (λ lo hi. omega arith)
 
-mul-x-3 : tie.Need-mul-x-3 Inv-loop μ-loop
-mul-x-3 c = search needs
-
-element-copy-out-x-3 : tie.Need-element-copy-out-x-3 Inv-loop μ-loop
-element-copy-out-x-3 c = search needs
-
-cast-bytes : tie.Need-cast-bytes Inv-loop μ-loop
-cast-bytes c = search needs
-
-slice-write-bytes-3 : tie.Need-slice-write-bytes-3 Inv-loop μ-loop
-slice-write-bytes-3 c = search needs
-
-add-i-3 : tie.Need-add-i-3 Inv-loop μ-loop
-add-i-3 c = search needs
-
-loop-less-3 : tie.Need-loop-less-3 Inv-loop μ-loop
-loop-less-3 c = search needs
-
 loop-again-3 : tie.Need-loop-again-3 Inv-loop μ-loop
 loop-again-3 c =
     let t = c .before .before .before .before .before .before .before .before .args .t2 in
@@ -105,27 +51,6 @@ loop-again-3 c =
     let i = loop .i in
     let same = bool-byte (isUsed t (i - usedAt)) ∙ sym (used-byte t (i - usedAt) i (omega arith) (omega arith)) in
     byte-written t (loop .bytes) i _ (loop .inv) (omega arith) same (λ lo hi. omega arith)
-
-mul-x-4 : tie.Need-mul-x-4 Inv-loop μ-loop
-mul-x-4 c = search needs
-
-element-copy-out-x-4 : tie.Need-element-copy-out-x-4 Inv-loop μ-loop
-element-copy-out-x-4 c = search needs
-
-unsigned-requires : tie.Need-unsigned-requires Inv-loop μ-loop
-unsigned-requires c κs = search needs
-
-word-byte-requires : tie.Need-word-byte-requires Inv-loop μ-loop
-word-byte-requires c κs = search needs
-
-slice-write-bytes-4 : tie.Need-slice-write-bytes-4 Inv-loop μ-loop
-slice-write-bytes-4 c = search needs
-
-add-i-4 : tie.Need-add-i-4 Inv-loop μ-loop
-add-i-4 c = search needs
-
-loop-less-4 : tie.Need-loop-less-4 Inv-loop μ-loop
-loop-less-4 c = search needs
 
 loop-again-4 : tie.Need-loop-again-4 Inv-loop μ-loop
 loop-again-4 c =
@@ -140,18 +65,6 @@ loop-again-4 c =
     let same = c .word-byte .ensures ∙ ap (λ (n : ℕ). wordByte n d) u ∙ sym (count-byte t s d i (omega arith) (omega arith) (omega arith)) in
     count-written t (loop .bytes) i _ (loop .inv) (omega arith) same f
 
-element-copy-out-bytes : tie.Need-element-copy-out-bytes Inv-loop μ-loop
-element-copy-out-bytes c = search needs
-
-slice-write-bytes-5 : tie.Need-slice-write-bytes-5 Inv-loop μ-loop
-slice-write-bytes-5 c = search needs
-
-add-i-5 : tie.Need-add-i-5 Inv-loop μ-loop
-add-i-5 c = search needs
-
-loop-less-5 : tie.Need-loop-less-5 Inv-loop μ-loop
-loop-less-5 c = search needs
-
 loop-again-5 : tie.Need-loop-again-5 Inv-loop μ-loop
 loop-again-5 c =
     let t = c .before .before .before .before .before .before .before .before .before .args .t2 in
@@ -159,15 +72,6 @@ loop-again-5 c =
     let i = loop .i in
     let same = sym (place-byte t (i - orderAt) i (omega arith) (omega arith)) in
     byte-written t (loop .bytes) i _ (loop .inv) (omega arith) same (λ lo hi. omega arith)
-
-slice-write-bytes-6 : tie.Need-slice-write-bytes-6 Inv-loop μ-loop
-slice-write-bytes-6 c = search needs
-
-add-i-6 : tie.Need-add-i-6 Inv-loop μ-loop
-add-i-6 c = search needs
-
-loop-less-6 : tie.Need-loop-less-6 Inv-loop μ-loop
-loop-less-6 c = search needs
 
 loop-again-6 : tie.Need-loop-again-6 Inv-loop μ-loop
 loop-again-6 c =
@@ -178,15 +82,6 @@ loop-again-6 c =
     let same = ap (byteOf t) (sym e) in
     byte-written t (loop .bytes) i _ (loop .inv) (omega arith) same (λ lo hi. omega arith)
 
-slice-write-bytes-7 : tie.Need-slice-write-bytes-7 Inv-loop μ-loop
-slice-write-bytes-7 c = search needs
-
-add-i-7 : tie.Need-add-i-7 Inv-loop μ-loop
-add-i-7 c = search needs
-
-loop-less-7 : tie.Need-loop-less-7 Inv-loop μ-loop
-loop-less-7 c = search needs
-
 loop-again-7 : tie.Need-loop-again-7 Inv-loop μ-loop
 loop-again-7 c =
     let t = c .before .before .before .before .before .before .before .before .before .args .t2 in
@@ -195,9 +90,6 @@ loop-again-7 c =
     let e : i ≡ nextProcessAt = omega arith in
     let same = ap (byteOf t) (sym e) in
     byte-written t (loop .bytes) i _ (loop .inv) (omega arith) same (λ lo hi. omega arith)
-
-same-length : tie.Need-same-length Inv-loop μ-loop
-same-length c = search needs
 
 returns : tie.Need-returns Inv-loop μ-loop
 returns c =
@@ -212,47 +104,47 @@ encode-spec =
     Inv-loop
     μ-loop
     loop-holds
-    sub-x
-    mul-x
-    element-copy-out-x
-    state-byte-requires
-    slice-write-bytes
-    add-i
-    loop-less
+    (λ c. search needs)
+    (λ c. search needs)
+    (λ c. search needs)
+    (λ c κs. search needs)
+    (λ c. search needs)
+    (λ c. search needs)
+    (λ c. search needs)
     loop-again
-    mul-x-2
-    element-copy-out-x-2
-    slice-write-bytes-2
-    add-i-2
-    loop-less-2
+    (λ c. search needs)
+    (λ c. search needs)
+    (λ c. search needs)
+    (λ c. search needs)
+    (λ c. search needs)
     loop-again-2
-    mul-x-3
-    element-copy-out-x-3
-    cast-bytes
-    slice-write-bytes-3
-    add-i-3
-    loop-less-3
+    (λ c. search needs)
+    (λ c. search needs)
+    (λ c. search needs)
+    (λ c. search needs)
+    (λ c. search needs)
+    (λ c. search needs)
     loop-again-3
-    mul-x-4
-    element-copy-out-x-4
-    unsigned-requires
-    word-byte-requires
-    slice-write-bytes-4
-    add-i-4
-    loop-less-4
+    (λ c. search needs)
+    (λ c. search needs)
+    (λ c κs. search needs)
+    (λ c κs. search needs)
+    (λ c. search needs)
+    (λ c. search needs)
+    (λ c. search needs)
     loop-again-4
-    element-copy-out-bytes
-    slice-write-bytes-5
-    add-i-5
-    loop-less-5
+    (λ c. search needs)
+    (λ c. search needs)
+    (λ c. search needs)
+    (λ c. search needs)
     loop-again-5
-    slice-write-bytes-6
-    add-i-6
-    loop-less-6
+    (λ c. search needs)
+    (λ c. search needs)
+    (λ c. search needs)
     loop-again-6
-    slice-write-bytes-7
-    add-i-7
-    loop-less-7
+    (λ c. search needs)
+    (λ c. search needs)
+    (λ c. search needs)
     loop-again-7
-    same-length
+    (λ c. search needs)
     returns)

@@ -3,11 +3,8 @@ use Rattle.layout.proofs.fields.process.Statement.{statement}
 use Rattle.layout.proofs.Readers.{process-tells}
 use Rattle.layout.proofs.fields.process.Tie as tie
 
-process-at-requires : tie.Need-process-at-requires
-process-at-requires c κs = search needs
-
 returns : tie.Need-returns
 returns c = λ h. rw (c .process-at .ensures) (process-tells _ _ h)
 
 pub process-spec : {M : Type 1} → statement M
-process-spec = tie.close (tie.spec process-at-requires returns)
+process-spec = tie.close (tie.spec (λ c κs. search needs) returns)

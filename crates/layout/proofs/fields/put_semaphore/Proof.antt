@@ -5,15 +5,6 @@ use Rattle.layout.proofs.fields.put_semaphore.Statement.{statement}
 use Rattle.layout.proofs.Writers.{semaphore-turns}
 use Rattle.layout.proofs.fields.put_semaphore.Tie as tie
 
-put-used-requires : tie.Need-put-used-requires
-put-used-requires c κs = search needs
-
-put-count-requires : tie.Need-put-count-requires
-put-count-requires c κs = search needs
-
-same-length : tie.Need-same-length
-same-length c = search needs
-
 returns : tie.Need-returns
 returns c =
     let start = c .before .before .before .before .before .before .before .before .before in
@@ -23,4 +14,4 @@ returns c =
     semaphore-turns _ (record { used = start .args .used; count = start .args .count }) _ _ _ s put counted
 
 pub put-semaphore-spec : {M : Type 1} → statement M
-put-semaphore-spec = tie.close (tie.spec put-used-requires put-count-requires same-length returns)
+put-semaphore-spec = tie.close (tie.spec (λ c κs. search needs) (λ c κs. search needs) (λ c. search needs) returns)

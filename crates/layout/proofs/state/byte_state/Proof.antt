@@ -18,11 +18,8 @@ returns-3 c = rw (ne-eqb _ 0 (c .before .before .if1 .left), ne-eqb _ 1 (c .befo
 returns-4 : tie.Need-returns-4
 returns-4 c = rw (ne-eqb _ 0 (c .before .before .before .if1 .left), ne-eqb _ 1 (c .before .before .if2 .left), ne-eqb _ 2 (c .before .if3 .left), eq-eqb _ 3 (c .if4 .taken))
 
-sub-t3 : tie.Need-sub-t3
-sub-t3 c = search needs
-
 returns-5 : tie.Need-returns-5
 returns-5 c = sym (byte-waiting _ (omega arith))
 
 pub byte-state-spec : {M : Type 1} → statement M
-byte-state-spec = tie.close (tie.spec returns returns-2 returns-3 returns-4 sub-t3 returns-5)
+byte-state-spec = tie.close (tie.spec returns returns-2 returns-3 returns-4 (λ c. search needs) returns-5)

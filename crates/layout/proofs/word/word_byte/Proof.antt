@@ -4,26 +4,14 @@ use borrow.Author.Tests.{eq-eqb, ne-eqb}
 use Rattle.layout.proofs.word.word_byte.Statement.{statement}
 use Rattle.layout.proofs.word.word_byte.Tie as tie
 
-cast-result : tie.Need-cast-result
-cast-result c = search needs
-
 returns : tie.Need-returns
 returns c = rw (eq-eqb _ 0 (c .if1 .taken))
-
-cast-result-2 : tie.Need-cast-result-2
-cast-result-2 c = search needs
 
 returns-2 : tie.Need-returns-2
 returns-2 c = rw (ne-eqb _ 0 (c .before .if1 .left), eq-eqb _ 1 (c .if2 .taken))
 
-cast-result-3 : tie.Need-cast-result-3
-cast-result-3 c = search needs
-
 returns-3 : tie.Need-returns-3
 returns-3 c = rw (ne-eqb _ 0 (c .before .before .if1 .left), ne-eqb _ 1 (c .before .if2 .left), eq-eqb _ 2 (c .if3 .taken))
-
-cast-result-4 : tie.Need-cast-result-4
-cast-result-4 c = search needs
 
 returns-4 : tie.Need-returns-4
 returns-4 c = rw (ne-eqb _ 0 (c .before .before .if1 .left), ne-eqb _ 1 (c .before .if2 .left), ne-eqb _ 2 (c .if3 .left))
@@ -32,11 +20,11 @@ pub word-byte-spec : {M : Type 1} → statement M
 word-byte-spec =
     tie.close
     (tie.spec
-    cast-result
+    (λ c. search needs)
     returns
-    cast-result-2
+    (λ c. search needs)
     returns-2
-    cast-result-3
+    (λ c. search needs)
     returns-3
-    cast-result-4
+    (λ c. search needs)
     returns-4)

@@ -8,29 +8,8 @@ use borrow.Author.Needs.{needs}
 use Rattle.lines.proofs.answer.answer_line.Statement.{statement}
 use Rattle.lines.proofs.answer.answer_line.Tie as tie
 
-read-line-requires : tie.Need-read-line-requires
-read-line-requires c κs = search needs
-
-enum-known-n : tie.Need-enum-known-n
-enum-known-n c = search needs
-
-cottonsedge-call-requires : tie.Need-cottonsedge-call-requires
-cottonsedge-call-requires c κs = search needs
-
 enum-told : tie.Need-enum-told
 enum-told c = search needs
-
-current-requires : tie.Need-current-requires
-current-requires c κs = search needs
-
-cast-pack : tie.Need-cast-pack
-cast-pack c = search needs
-
-pack-requires : tie.Need-pack-requires
-pack-requires c κs = search needs
-
-same-length : tie.Need-same-length
-same-length c = search needs
 
 returns : tie.Need-returns
 returns c =
@@ -44,9 +23,6 @@ returns c =
     let called = rw (toZ-ofZ w32 a fits-a, toZ-ofZ w32 b fits-b) at (c .before .before .cottonsedge-call .ensures) in
     rw (sym (read-line .ensures) ∙ n .given .1) (called .answer, called .bytes)
 
-same-length-2 : tie.Need-same-length-2
-same-length-2 c = search needs
-
 returns-2 : tie.Need-returns-2
 returns-2 c =
     let read-line = c .before .before .before .before .before .read-line in
@@ -57,14 +33,14 @@ pub answer-line-spec : {M : Type 1} → statement M
 answer-line-spec =
     tie.close
     (tie.spec
-    read-line-requires
-    enum-known-n
-    cottonsedge-call-requires
+    (λ c κs. search needs)
+    (λ c. search needs)
+    (λ c κs. search needs)
     enum-told
-    current-requires
-    cast-pack
-    pack-requires
-    same-length
+    (λ c κs. search needs)
+    (λ c. search needs)
+    (λ c κs. search needs)
+    (λ c. search needs)
     returns
-    same-length-2
+    (λ c. search needs)
     returns-2)

@@ -16,26 +16,8 @@ Inv-loop out₀ answer rest₀ i₀ out rest i = (i ≤ 12) × (12 < length out)
 abbrev μ-loop : tie.MeasureT-loop
 μ-loop out₀ answer rest₀ i₀ out rest i = i
 
-slice-write-out : tie.Need-slice-write-out Inv-loop μ-loop
-slice-write-out c = search needs
-
 loop-holds : tie.Need-loop-holds Inv-loop μ-loop
 loop-holds c = (search needs, search needs, search needs, refl)
-
-sub-i : tie.Need-sub-i Inv-loop μ-loop
-sub-i c = search needs
-
-cast-letter : tie.Need-cast-letter Inv-loop μ-loop
-cast-letter c = search needs
-
-letter-requires : tie.Need-letter-requires Inv-loop μ-loop
-letter-requires c κs = search needs
-
-slice-write-out-2 : tie.Need-slice-write-out-2 Inv-loop μ-loop
-slice-write-out-2 c = search needs
-
-loop-less : tie.Need-loop-less Inv-loop μ-loop
-loop-less c = search needs
 
 loop-again : tie.Need-loop-again Inv-loop μ-loop
 loop-again c =
@@ -63,13 +45,13 @@ write-answer-spec =
     (tie.spec
     Inv-loop
     μ-loop
-    slice-write-out
+    (λ c. search needs)
     loop-holds
-    sub-i
-    cast-letter
-    letter-requires
-    slice-write-out-2
-    loop-less
+    (λ c. search needs)
+    (λ c. search needs)
+    (λ c κs. search needs)
+    (λ c. search needs)
+    (λ c. search needs)
     loop-again
     same-length
     returns)

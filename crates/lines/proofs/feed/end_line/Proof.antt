@@ -13,9 +13,6 @@ use Rattle.lines.proofs.feed.end_line.Tie as tie
 long : (c : tie.Start) → length (c .args .part .bytes) ≡ 19
 long c = search needs
 
-least-requires : tie.Need-least-requires
-least-requires c κs = search needs
-
 array-share-prefix-bytes : tie.Need-array-share-prefix-bytes
 array-share-prefix-bytes c =
     let start = c .before .before .before .before .before in
@@ -27,21 +24,6 @@ slice-aggregate-answer-line c =
     let start = at-least .before .before .before .before in
     let within : at-least .least .result ≤ length (start .args .part .bytes) = omega (arith, long start, at-least .least .ensures, min-le-right (start .args .part .count) 19) in
     simp length-take (sym (min-eq-left within))
-
-answer-line-requires : tie.Need-answer-line-requires
-answer-line-requires c κs = search needs
-
-write-answer-requires : tie.Need-write-answer-requires
-write-answer-requires c κs = search needs
-
-new-requires : tie.Need-new-requires
-new-requires c κs = search needs
-
-same-length : tie.Need-same-length
-same-length c = search needs
-
-same-length-2 : tie.Need-same-length-2
-same-length-2 c = search needs
 
 returns : tie.Need-returns
 returns c =
@@ -58,12 +40,12 @@ pub end-line-spec : {M : Type 1} → statement M
 end-line-spec =
     tie.close
     (tie.spec
-    least-requires
+    (λ c κs. search needs)
     array-share-prefix-bytes
     slice-aggregate-answer-line
-    answer-line-requires
-    write-answer-requires
-    new-requires
-    same-length
-    same-length-2
+    (λ c κs. search needs)
+    (λ c κs. search needs)
+    (λ c κs. search needs)
+    (λ c. search needs)
+    (λ c. search needs)
     returns)

@@ -12,9 +12,6 @@ use borrow.Author.Needs.{needs}
 use Rattle.lines.proofs.feed.feed.Statement.{statement}
 use Rattle.lines.proofs.feed.feed.Tie as tie
 
-least-requires : tie.Need-least-requires
-least-requires c κs = search needs
-
 slice-aggregate-feed-all : tie.Need-slice-aggregate-feed-all
 slice-aggregate-feed-all c =
     let at-least = c .before .before in
@@ -31,12 +28,6 @@ feed-all-requires c κs =
     let most = length (start .args .out .now) / answerLength in
     rw (at-least .least .ensures, least-long most chunk) (omega (arith, min-le-left most (length chunk), mul-div-le (length (start .args .out .now)) answerLength))
 
-same-length : tie.Need-same-length
-same-length c = search needs
-
-same-length-2 : tie.Need-same-length-2
-same-length-2 c = search needs
-
 returns : tie.Need-returns
 unfolding taken
 returns c =
@@ -51,9 +42,9 @@ pub feed-spec : {M : Type 1} → statement M
 feed-spec =
     tie.close
     (tie.spec
-    least-requires
+    (λ c κs. search needs)
     slice-aggregate-feed-all
     feed-all-requires
-    same-length
-    same-length-2
+    (λ c. search needs)
+    (λ c. search needs)
     returns)

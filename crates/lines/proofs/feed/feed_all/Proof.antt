@@ -19,18 +19,6 @@ abbrev μ-loop : tie.MeasureT-loop
 loop-holds : tie.Need-loop-holds Inv-loop μ-loop
 loop-holds c = (c .before .before .before .pre, refl, serving-start _ _ _)
 
-shared-slice-read-feed-one : tie.Need-shared-slice-read-feed-one Inv-loop μ-loop
-shared-slice-read-feed-one c = search needs
-
-sub-feed-one : tie.Need-sub-feed-one Inv-loop μ-loop
-sub-feed-one c = search needs
-
-part-feed-one-start : tie.Need-part-feed-one-start Inv-loop μ-loop
-part-feed-one-start c = search needs
-
-part-feed-one-end : tie.Need-part-feed-one-end Inv-loop μ-loop
-part-feed-one-end c = search needs
-
 feed-one-requires : tie.Need-feed-one-requires Inv-loop μ-loop
 feed-one-requires c κs =
     let tested = c .before .before .before in
@@ -50,12 +38,6 @@ add-at c =
           (c .before .before .before .before .before .before .feed-one .ensures)
           .room,
     )
-
-add-i : tie.Need-add-i Inv-loop μ-loop
-add-i c = search needs
-
-loop-less : tie.Need-loop-less Inv-loop μ-loop
-loop-less c = search needs
 
 loop-again : tie.Need-loop-again Inv-loop μ-loop
 loop-again c =
@@ -81,14 +63,14 @@ feed-all-spec =
     Inv-loop
     μ-loop
     loop-holds
-    shared-slice-read-feed-one
-    sub-feed-one
-    part-feed-one-start
-    part-feed-one-end
+    (λ c. search needs)
+    (λ c. search needs)
+    (λ c. search needs)
+    (λ c. search needs)
     feed-one-requires
     add-at
-    add-i
-    loop-less
+    (λ c. search needs)
+    (λ c. search needs)
     loop-again
     same-length
     same-length-2

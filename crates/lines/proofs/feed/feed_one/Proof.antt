@@ -6,20 +6,8 @@ use borrow.Author.Needs.{needs}
 use Rattle.lines.proofs.feed.feed_one.Statement.{statement}
 use Rattle.lines.proofs.feed.feed_one.Tie as tie
 
-end-line-requires : tie.Need-end-line-requires
-end-line-requires c κs = search needs
-
-same-length : tie.Need-same-length
-same-length c = search needs
-
-same-length-2 : tie.Need-same-length-2
-same-length-2 c = search needs
-
 returns : tie.Need-returns
 returns c = rw (c .before .before .before .before .before .before .before .if1 .taken) (c .before .before .before .before .end-line .ensures)
-
-with-requires : tie.Need-with-requires
-with-requires c κs = search needs
 
 returns-2 : tie.Need-returns-2
 returns-2 c =
@@ -29,4 +17,4 @@ returns-2 c =
 pub feed-one-spec : {M : Type 1} → statement M
 feed-one-spec =
     tie.close
-    (tie.spec end-line-requires same-length same-length-2 returns with-requires returns-2)
+    (tie.spec (λ c κs. search needs) (λ c. search needs) (λ c. search needs) returns (λ c κs. search needs) returns-2)

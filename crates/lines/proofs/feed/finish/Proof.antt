@@ -12,25 +12,10 @@ use Rattle.lines.proofs.feed.finish.Tie as tie
 long : (c : tie.Start) → length (c .args .part .bytes) ≡ 19
 long c = search needs
 
-least-requires : tie.Need-least-requires
-least-requires c κs = search needs
-
-array-share-prefix-end : tie.Need-array-share-prefix-end
-array-share-prefix-end c = search needs
-
 slice-aggregate-feed : tie.Need-slice-aggregate-feed
 slice-aggregate-feed c =
     let within : c .before .before .least .result ≤ 1 = search needs in
     simp length-take (sym (min-eq-left within))
-
-feed-requires : tie.Need-feed-requires
-feed-requires c κs = search needs
-
-same-length : tie.Need-same-length
-same-length c = search needs
-
-same-length-2 : tie.Need-same-length-2
-same-length-2 c = search needs
 
 returns : tie.Need-returns
 returns c =
@@ -43,10 +28,10 @@ pub finish-spec : {M : Type 1} → statement M
 finish-spec =
     tie.close
     (tie.spec
-    least-requires
-    array-share-prefix-end
+    (λ c κs. search needs)
+    (λ c. search needs)
     slice-aggregate-feed
-    feed-requires
-    same-length
-    same-length-2
+    (λ c κs. search needs)
+    (λ c. search needs)
+    (λ c. search needs)
     returns)

@@ -7,18 +7,12 @@ use borrow.Author.Needs.{needs}
 use Rattle.lines.proofs.hex.digit.Statement.{statement}
 use Rattle.lines.proofs.hex.digit.Tie as tie
 
-is-between-requires : tie.Need-is-between-requires
-is-between-requires c κs = search needs
-
 sub-result : tie.Need-sub-result
 sub-result c = between-low _ _ _ (sym (c .before .is-between .ensures) ∙ c .if1 .taken)
 
 returns : tie.Need-returns
 unfolding digitOf
 returns c = rw (sym (c .before .is-between .ensures) ∙ c .if1 .taken)
-
-is-between-requires-2 : tie.Need-is-between-requires-2
-is-between-requires-2 c κs = search needs
 
 sub-result-2 : tie.Need-sub-result-2
 sub-result-2 c = omega (arith, between-low 65 70 (c .before .before .before .before .args .c) (sym (c .before .is-between2 .ensures) ∙ c .if2 .taken))
@@ -29,9 +23,6 @@ returns-2 c =
     let at-if1 = c .before .before in
     let at-is-between = at-if1 .before in
     rw (sym (at-is-between .is-between .ensures) ∙ at-if1 .if1 .left, sym (c .before .is-between2 .ensures) ∙ c .if2 .taken)
-
-is-between-requires-3 : tie.Need-is-between-requires-3
-is-between-requires-3 c κs = search needs
 
 sub-result-3 : tie.Need-sub-result-3
 sub-result-3 c =
@@ -60,13 +51,13 @@ pub digit-spec : {M : Type 1} → statement M
 digit-spec =
     tie.close
     (tie.spec
-    is-between-requires
+    (λ c κs. search needs)
     sub-result
     returns
-    is-between-requires-2
+    (λ c κs. search needs)
     sub-result-2
     returns-2
-    is-between-requires-3
+    (λ c κs. search needs)
     sub-result-3
     returns-3
     returns-4)

@@ -12,33 +12,6 @@ use Rattle.lines.proofs.line.read_line.Tie as tie
 slice-aggregate-read-field : tie.Need-slice-aggregate-read-field
 slice-aggregate-read-field c = sym (simp length-take (omega arith))
 
-read-field-requires : tie.Need-read-field-requires
-read-field-requires c κs = search needs
-
-sub-read-field : tie.Need-sub-read-field
-sub-read-field c = search needs
-
-part-read-field-start : tie.Need-part-read-field-start
-part-read-field-start c = search needs
-
-part-read-field-end : tie.Need-part-read-field-end
-part-read-field-end c = search needs
-
-read-field-requires-2 : tie.Need-read-field-requires-2
-read-field-requires-2 c κs = search needs
-
-sub-read-field-2 : tie.Need-sub-read-field-2
-sub-read-field-2 c = search needs
-
-part-read-field-start-2 : tie.Need-part-read-field-start-2
-part-read-field-start-2 c = search needs
-
-part-read-field-end-2 : tie.Need-part-read-field-end-2
-part-read-field-end-2 c = search needs
-
-read-field-requires-3 : tie.Need-read-field-requires-3
-read-field-requires-3 c κs = search needs
-
 request-requires : tie.Need-request-requires
 request-requires c κs =
     let at-read-field = c .before .before .before .before in
@@ -62,15 +35,15 @@ read-line-spec =
     tie.close
     (tie.spec
     slice-aggregate-read-field
-    read-field-requires
-    sub-read-field
-    part-read-field-start
-    part-read-field-end
-    read-field-requires-2
-    sub-read-field-2
-    part-read-field-start-2
-    part-read-field-end-2
-    read-field-requires-3
+    (λ c κs. search needs)
+    (λ c. search needs)
+    (λ c. search needs)
+    (λ c. search needs)
+    (λ c κs. search needs)
+    (λ c. search needs)
+    (λ c. search needs)
+    (λ c. search needs)
+    (λ c κs. search needs)
     request-requires
     returns
     returns-2)

@@ -6,9 +6,6 @@ use Rattle.soundness.proofs.check.is_sound.Statement.{statement}
 use Rattle.soundness.proofs.Parts.{unlaid}
 use Rattle.soundness.proofs.check.is_sound.Tie as tie
 
-well-formed-requires : tie.Need-well-formed-requires
-well-formed-requires c κs = search needs
-
 returns : tie.Need-returns
 unfolding good
 returns c = sym (rw (sym (c .before .well-formed .ensures) ∙ not-true _ (c .if1 .taken)))
@@ -39,4 +36,4 @@ returns-3 c =
 pub is-sound-spec : {M : Type 1} → statement M
 is-sound-spec =
     tie.close
-    (tie.spec well-formed-requires returns laid-requires returns-2 runs-requires returns-3)
+    (tie.spec (λ c κs. search needs) returns laid-requires returns-2 runs-requires returns-3)

@@ -16,17 +16,11 @@ long c = formed-long (c .args .bytes .now) (c .pre)
 shared-slice-read-if1 : tie.Need-shared-slice-read-if1
 shared-slice-read-if1 c = let l = long (c .before .before) in omega arith
 
-cast-if1 : tie.Need-cast-if1
-cast-if1 c = search needs
-
 returns : tie.Need-returns
 returns c = far-semaphore (c .before .before .before .args .bytes .now) (c .if1 .taken)
 
 shared-slice-read-if2 : tie.Need-shared-slice-read-if2
 shared-slice-read-if2 c = let l = long (c .before .before .before .before) in omega arith
-
-cast-if2 : tie.Need-cast-if2
-cast-if2 c = search needs
 
 returns-2 : tie.Need-returns-2
 returns-2 c =
@@ -38,9 +32,6 @@ shared-slice-read-null-fits c = let l = long (c .before .before .before .before 
 
 shared-slice-read-null-fits-2 : tie.Need-shared-slice-read-null-fits-2
 shared-slice-read-null-fits-2 c = let l = long (c .before .before .before .before .before .before .before) in omega arith
-
-null-fits-requires : tie.Need-null-fits-requires
-null-fits-requires c κs = search needs
 
 returns-3 : tie.Need-returns-3
 returns-3 c =
@@ -80,14 +71,14 @@ laid-spec =
     tie.close
     (tie.spec
     shared-slice-read-if1
-    cast-if1
+    (λ c. search needs)
     returns
     shared-slice-read-if2
-    cast-if2
+    (λ c. search needs)
     returns-2
     shared-slice-read-null-fits
     shared-slice-read-null-fits-2
-    null-fits-requires
+    (λ c κs. search needs)
     returns-3
     slots-fit-requires
     returns-4

@@ -30,17 +30,11 @@ current-requires c κs =
     let start = c .before .before .before in
     formed-long (start .args .bytes .now) (start .pre .0)
 
-cast-c : tie.Need-cast-c
-cast-c c = search needs
-
 keys-requires : tie.Need-keys-requires
 keys-requires c κs =
     let start = c .before .before .before .before in
     let bs = start .args .bytes .now in
     (formed-long bs (start .pre .0), priority-small bs (start .pre .0) (start .pre .1))
-
-add-ready-falls : tie.Need-add-ready-falls
-add-ready-falls c = search needs
 
 shared-slice-read-ready-falls : tie.Need-shared-slice-read-ready-falls
 shared-slice-read-ready-falls c =
@@ -69,9 +63,6 @@ returns-2 c =
     let current = c .before .before .before .before .before .current in
     sym (not-falling bs (start .pre .0) (start .pre .1) _ (currents .ensures) (if1 .left) _ (current .ensures) _ (c .before .ready-falls .ensures) (not-true _ (c .if2 .taken)))
 
-queues-fit-requires : tie.Need-queues-fit-requires
-queues-fit-requires c κs = search needs
-
 returns-3 : tie.Need-returns-3
 returns-3 c =
     let start = c .before .before .before .before .before .before .before .before .before .before in
@@ -89,12 +80,12 @@ runs-spec =
     currents-requires
     returns
     current-requires
-    cast-c
+    (λ c. search needs)
     keys-requires
-    add-ready-falls
+    (λ c. search needs)
     shared-slice-read-ready-falls
     add-ready-falls-2
     ready-falls-requires
     returns-2
-    queues-fit-requires
+    (λ c κs. search needs)
     returns-3)

@@ -31,24 +31,6 @@ few c s =
 loop-holds : tie.Need-loop-holds Inv-loop μ-loop
 loop-holds c = (search needs, sym (all-none _), search needs, search needs)
 
-add-s : tie.Need-add-s Inv-loop μ-loop
-add-s c = search needs
-
-add-count-fits : tie.Need-add-count-fits Inv-loop μ-loop
-add-count-fits c = search needs
-
-shared-slice-read-count-fits : tie.Need-shared-slice-read-count-fits Inv-loop μ-loop
-shared-slice-read-count-fits c = search needs
-
-element-copy-out-count-fits : tie.Need-element-copy-out-count-fits Inv-loop μ-loop
-element-copy-out-count-fits c = search needs
-
-element-copy-out-count-fits-2 : tie.Need-element-copy-out-count-fits-2 Inv-loop μ-loop
-element-copy-out-count-fits-2 c = search needs
-
-element-copy-out-count-fits-3 : tie.Need-element-copy-out-count-fits-3 Inv-loop μ-loop
-element-copy-out-count-fits-3 c = search needs
-
 add-count-fits-2 : tie.Need-add-count-fits-2 Inv-loop μ-loop
 add-count-fits-2 c =
     let start = c .before .before .before .before .before .before .before in
@@ -59,12 +41,6 @@ count-fits-requires : tie.Need-count-fits-requires Inv-loop μ-loop
 count-fits-requires c κs =
     let start = c .before .before .before .before .before .before .before in
     few start (start .args .from + c .before .before .before .before .before .loop .i)
-
-add-i : tie.Need-add-i Inv-loop μ-loop
-add-i c = search needs
-
-loop-less : tie.Need-loop-less Inv-loop μ-loop
-loop-less c = search needs
 
 loop-again : tie.Need-loop-again Inv-loop μ-loop
 loop-again c =
@@ -92,15 +68,15 @@ block-fits-spec =
     Inv-loop
     μ-loop
     loop-holds
-    add-s
-    add-count-fits
-    shared-slice-read-count-fits
-    element-copy-out-count-fits
-    element-copy-out-count-fits-2
-    element-copy-out-count-fits-3
+    (λ c. search needs)
+    (λ c. search needs)
+    (λ c. search needs)
+    (λ c. search needs)
+    (λ c. search needs)
+    (λ c. search needs)
     add-count-fits-2
     count-fits-requires
-    add-i
-    loop-less
+    (λ c. search needs)
+    (λ c. search needs)
     loop-again
     returns)

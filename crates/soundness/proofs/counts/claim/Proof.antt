@@ -4,9 +4,6 @@ use borrow.Author.Tests.{le-ltb, lt-ltb}
 use Rattle.soundness.proofs.counts.claim.Statement.{statement}
 use Rattle.soundness.proofs.counts.claim.Tie as tie
 
-sub-result : tie.Need-sub-result
-sub-result c = search needs
-
 returns : tie.Need-returns
 returns c = sym (rw (lt-ltb (c .before .args .x) 128 (c .if1 .taken)))
 
@@ -14,4 +11,4 @@ returns-2 : tie.Need-returns-2
 returns-2 c = sym (rw (le-ltb (c .before .args .x) 128 (c .if1 .left)))
 
 pub claim-spec : {M : Type 1} → statement M
-claim-spec = tie.close (tie.spec sub-result returns returns-2)
+claim-spec = tie.close (tie.spec (λ c. search needs) returns returns-2)

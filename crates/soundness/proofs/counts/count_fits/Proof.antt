@@ -4,11 +4,8 @@ use Rattle.soundness.proofs.counts.count_fits.Statement.{statement}
 use Rattle.soundness.proofs.Squeezing.{squeezed-fits}
 use Rattle.soundness.proofs.counts.count_fits.Tie as tie
 
-claim-requires : tie.Need-claim-requires
-claim-requires c κs = search needs
-
 returns : tie.Need-returns
 returns c = λ z e. rw (c .claim .ensures, e) (squeezed-fits (eqb (c .before .args .used) 1) z (c .before .args .many) (c .before .pre))
 
 pub count-fits-spec : {M : Type 1} → statement M
-count-fits-spec = tie.close (tie.spec claim-requires returns)
+count-fits-spec = tie.close (tie.spec (λ c κs. search needs) returns)

@@ -10,18 +10,6 @@ use Rattle.soundness.proofs.counts.counts_fit.Statement.{statement}
 use Rattle.soundness.proofs.Squeezing.{all-overlap}
 use Rattle.soundness.proofs.counts.counts_fit.Tie as tie
 
-smalls-requires : tie.Need-smalls-requires
-smalls-requires c κs = search needs
-
-smalls-requires-2 : tie.Need-smalls-requires-2
-smalls-requires-2 c κs = search needs
-
-block-fits-requires : tie.Need-block-fits-requires
-block-fits-requires c κs = search needs
-
-block-fits-requires-2 : tie.Need-block-fits-requires-2
-block-fits-requires-2 c κs = search needs
-
 returns : tie.Need-returns
 returns c =
     let args = c .before .before .before .before .before .before .before .args in
@@ -31,4 +19,4 @@ returns c =
 pub counts-fit-spec : {M : Type 1} → statement M
 counts-fit-spec =
     tie.close
-    (tie.spec smalls-requires smalls-requires-2 block-fits-requires block-fits-requires-2 returns)
+    (tie.spec (λ c κs. search needs) (λ c κs. search needs) (λ c κs. search needs) (λ c κs. search needs) returns)

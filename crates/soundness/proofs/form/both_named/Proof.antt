@@ -22,33 +22,6 @@ abbrev μ-loop : tie.MeasureT-loop
 loop-holds : tie.Need-loop-holds Inv-loop μ-loop
 loop-holds c = (search needs, sym (all-none _), search needs)
 
-add-ok : tie.Need-add-ok Inv-loop μ-loop
-add-ok c = search needs
-
-shared-slice-read-ok : tie.Need-shared-slice-read-ok Inv-loop μ-loop
-shared-slice-read-ok c = search needs
-
-cast-ok : tie.Need-cast-ok Inv-loop μ-loop
-cast-ok c = search needs
-
-add-ok-2 : tie.Need-add-ok-2 Inv-loop μ-loop
-add-ok-2 c = search needs
-
-add-ok-3 : tie.Need-add-ok-3 Inv-loop μ-loop
-add-ok-3 c = search needs
-
-shared-slice-read-ok-2 : tie.Need-shared-slice-read-ok-2 Inv-loop μ-loop
-shared-slice-read-ok-2 c = search needs
-
-cast-ok-2 : tie.Need-cast-ok-2 Inv-loop μ-loop
-cast-ok-2 c = search needs
-
-add-i : tie.Need-add-i Inv-loop μ-loop
-add-i c = search needs
-
-loop-less : tie.Need-loop-less Inv-loop μ-loop
-loop-less c = search needs
-
 loop-again : tie.Need-loop-again Inv-loop μ-loop
 loop-again c =
     let bs = c .before .before .before .before .args .bytes .now in
@@ -67,14 +40,14 @@ both-named-spec =
     Inv-loop
     μ-loop
     loop-holds
-    add-ok
-    shared-slice-read-ok
-    cast-ok
-    add-ok-2
-    add-ok-3
-    shared-slice-read-ok-2
-    cast-ok-2
-    add-i
-    loop-less
+    (λ c. search needs)
+    (λ c. search needs)
+    (λ c. search needs)
+    (λ c. search needs)
+    (λ c. search needs)
+    (λ c. search needs)
+    (λ c. search needs)
+    (λ c. search needs)
+    (λ c. search needs)
     loop-again
     returns)

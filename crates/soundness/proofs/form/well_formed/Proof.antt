@@ -11,12 +11,6 @@ returns : tie.Need-returns
 unfolding wellFormed
 returns c = sym (rw (ne-eqb _ size (c .if1 .taken)))
 
-both-named-requires : tie.Need-both-named-requires
-both-named-requires c κs = search needs
-
-flags-plain-requires : tie.Need-flags-plain-requires
-flags-plain-requires c κs = search needs
-
 returns-2 : tie.Need-returns-2
 unfolding wellFormed
 returns-2 c =
@@ -25,4 +19,4 @@ returns-2 c =
 
 pub well-formed-spec : {M : Type 1} → statement M
 well-formed-spec =
-    tie.close (tie.spec returns both-named-requires flags-plain-requires returns-2)
+    tie.close (tie.spec returns (λ c κs. search needs) (λ c κs. search needs) returns-2)

@@ -4,9 +4,6 @@ use borrow.Author.Tests.{eq-eqb, ne-eqb}
 use Rattle.soundness.proofs.ready.key.Statement.{statement}
 use Rattle.soundness.proofs.ready.key.Tie as tie
 
-add-result : tie.Need-add-result
-add-result c = search needs
-
 returns : tie.Need-returns
 returns c = sym (rw (eq-eqb (c .before .args .state) 2 (c .if1 .taken)))
 
@@ -14,4 +11,4 @@ returns-2 : tie.Need-returns-2
 returns-2 c = sym (rw (ne-eqb (c .before .args .state) 2 (c .if1 .left)))
 
 pub key-spec : {M : Type 1} → statement M
-key-spec = tie.close (tie.spec add-result returns returns-2)
+key-spec = tie.close (tie.spec (λ c. search needs) returns returns-2)

@@ -20,32 +20,11 @@ abbrev μ-loop : tie.MeasureT-loop
 loop-holds : tie.Need-loop-holds Inv-loop μ-loop
 loop-holds c = (search needs, search needs, (λ p h. absurd (omega arith)), search needs)
 
-add-key : tie.Need-add-key Inv-loop μ-loop
-add-key c = search needs
-
-shared-slice-read-key : tie.Need-shared-slice-read-key Inv-loop μ-loop
-shared-slice-read-key c = search needs
-
-add-key-2 : tie.Need-add-key-2 Inv-loop μ-loop
-add-key-2 c = search needs
-
-shared-slice-read-key-2 : tie.Need-shared-slice-read-key-2 Inv-loop μ-loop
-shared-slice-read-key-2 c = search needs
-
 key-requires : tie.Need-key-requires Inv-loop μ-loop
 key-requires c κs =
     let pre = c .before .before .before .before .before .pre in
     let loop = c .before .before .before .loop in
     pre .1 (loop .i) (omega arith)
-
-array-write-k : tie.Need-array-write-k Inv-loop μ-loop
-array-write-k c = search needs
-
-add-i : tie.Need-add-i Inv-loop μ-loop
-add-i c = search needs
-
-loop-less : tie.Need-loop-less Inv-loop μ-loop
-loop-less c = search needs
 
 loop-again : tie.Need-loop-again Inv-loop μ-loop
 loop-again c =
@@ -66,13 +45,13 @@ keys-spec =
     Inv-loop
     μ-loop
     loop-holds
-    add-key
-    shared-slice-read-key
-    add-key-2
-    shared-slice-read-key-2
+    (λ c. search needs)
+    (λ c. search needs)
+    (λ c. search needs)
+    (λ c. search needs)
     key-requires
-    array-write-k
-    add-i
-    loop-less
+    (λ c. search needs)
+    (λ c. search needs)
+    (λ c. search needs)
     loop-again
     returns)

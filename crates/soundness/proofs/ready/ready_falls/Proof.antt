@@ -19,12 +19,6 @@ abbrev μ-loop : tie.MeasureT-loop
 loop-holds : tie.Need-loop-holds Inv-loop μ-loop
 loop-holds c = (search needs, search needs, refl, search needs)
 
-add-p : tie.Need-add-p Inv-loop μ-loop
-add-p c = search needs
-
-shared-slice-read-p : tie.Need-shared-slice-read-p Inv-loop μ-loop
-shared-slice-read-p c = search needs
-
 cast-p : tie.Need-cast-p Inv-loop μ-loop
 cast-p c =
     let start = c .before .before .before .before in
@@ -55,15 +49,6 @@ returns c =
     let key = start .pre .2 p hp in
     let stop = key-stop bs named i p (omega arith) refl (loop .last) v key (loop .inv .1) (c .if1 .taken) in
     sym (sym (left-all bs (args .top - 1)) ∙ loop .inv .2 ∙ stop)
-
-latest-requires : tie.Need-latest-requires Inv-loop μ-loop
-latest-requires c κs = search needs
-
-add-i : tie.Need-add-i Inv-loop μ-loop
-add-i c = search needs
-
-loop-less : tie.Need-loop-less Inv-loop μ-loop
-loop-less c = search needs
 
 loop-again : tie.Need-loop-again Inv-loop μ-loop
 loop-again c =
@@ -98,13 +83,13 @@ ready-falls-spec =
     Inv-loop
     μ-loop
     loop-holds
-    add-p
-    shared-slice-read-p
+    (λ c. search needs)
+    (λ c. search needs)
     cast-p
     element-copy-out-v
     returns
-    latest-requires
-    add-i
-    loop-less
+    (λ c κs. search needs)
+    (λ c. search needs)
+    (λ c. search needs)
     loop-again
     returns-2)

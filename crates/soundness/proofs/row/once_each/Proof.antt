@@ -29,12 +29,6 @@ abbrev μ-loop : tie.MeasureT-loop
 loop-holds : tie.Need-loop-holds Inv-loop μ-loop
 loop-holds c = (search needs, sym (mask-ext processLimit _ (λ p. false) (λ p h. among-none p) ∙ mask-none processLimit), search needs)
 
-add-p : tie.Need-add-p Inv-loop μ-loop
-add-p c = search needs
-
-shared-slice-read-p : tie.Need-shared-slice-read-p Inv-loop μ-loop
-shared-slice-read-p c = search needs
-
 cast-seen : tie.Need-cast-seen Inv-loop μ-loop
 cast-seen c =
     let start = c .before .before .before in
@@ -50,12 +44,6 @@ shl-seen c =
     let loop = c .before .before .loop in
     let hp : getD bs (orderAt + loop .i) 0 < processLimit = start .pre .1 (loop .i) (omega arith) in
     omega arith
-
-add-i : tie.Need-add-i Inv-loop μ-loop
-add-i c = search needs
-
-loop-less : tie.Need-loop-less Inv-loop μ-loop
-loop-less c = search needs
 
 loop-again : tie.Need-loop-again Inv-loop μ-loop
 loop-again c =
@@ -95,11 +83,11 @@ once-each-spec =
     Inv-loop
     μ-loop
     loop-holds
-    add-p
-    shared-slice-read-p
+    (λ c. search needs)
+    (λ c. search needs)
     cast-seen
     shl-seen
-    add-i
-    loop-less
+    (λ c. search needs)
+    (λ c. search needs)
     loop-again
     returns)

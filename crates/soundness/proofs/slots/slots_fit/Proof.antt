@@ -26,27 +26,6 @@ abbrev μ-loop : tie.MeasureT-loop
 loop-holds : tie.Need-loop-holds Inv-loop μ-loop
 loop-holds c = (search needs, sym (all-none _), search needs)
 
-add-slot-fits : tie.Need-add-slot-fits Inv-loop μ-loop
-add-slot-fits c = search needs
-
-shared-slice-read-slot-fits : tie.Need-shared-slice-read-slot-fits Inv-loop μ-loop
-shared-slice-read-slot-fits c = search needs
-
-add-slot-fits-2 : tie.Need-add-slot-fits-2 Inv-loop μ-loop
-add-slot-fits-2 c = search needs
-
-shared-slice-read-slot-fits-2 : tie.Need-shared-slice-read-slot-fits-2 Inv-loop μ-loop
-shared-slice-read-slot-fits-2 c = search needs
-
-slot-fits-requires : tie.Need-slot-fits-requires Inv-loop μ-loop
-slot-fits-requires c κs = search needs
-
-add-i : tie.Need-add-i Inv-loop μ-loop
-add-i c = search needs
-
-loop-less : tie.Need-loop-less Inv-loop μ-loop
-loop-less c = search needs
-
 loop-again : tie.Need-loop-again Inv-loop μ-loop
 loop-again c =
     let bs = c .before .before .before .before .before .before .args .bytes .now in
@@ -67,12 +46,12 @@ slots-fit-spec =
     Inv-loop
     μ-loop
     loop-holds
-    add-slot-fits
-    shared-slice-read-slot-fits
-    add-slot-fits-2
-    shared-slice-read-slot-fits-2
-    slot-fits-requires
-    add-i
-    loop-less
+    (λ c. search needs)
+    (λ c. search needs)
+    (λ c. search needs)
+    (λ c. search needs)
+    (λ c κs. search needs)
+    (λ c. search needs)
+    (λ c. search needs)
     loop-again
     returns)

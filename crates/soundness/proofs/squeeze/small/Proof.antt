@@ -5,12 +5,6 @@ use Rattle.soundness.proofs.squeeze.small.Statement.{statement}
 use Rattle.soundness.proofs.Squeezing.{both-cut, byte-fits, byte-is, sum-fits}
 use Rattle.soundness.proofs.squeeze.small.Tie as tie
 
-least-requires : tie.Need-least-requires
-least-requires c κs = search needs
-
-most-requires : tie.Need-most-requires
-most-requires c κs = search needs
-
 cut : (c : tie.After-most) → c .most .result ≡ capped (floored (c .before .before .args .c))
 cut c = both-cut (c .before .before .args .c) (c .before .least .result) (c .most .result) (c .before .before .fits .c) (c .before .least .ensures) (c .most .ensures)
 
@@ -24,4 +18,4 @@ returns : tie.Need-returns
 returns c = byte-is (c .before .before .args .c) (c .most .result) (cut c)
 
 pub small-spec : {M : Type 1} → statement M
-small-spec = tie.close (tie.spec least-requires most-requires add-result cast-result returns)
+small-spec = tie.close (tie.spec (λ c κs. search needs) (λ c κs. search needs) add-result cast-result returns)

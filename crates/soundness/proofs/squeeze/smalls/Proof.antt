@@ -19,18 +19,6 @@ abbrev μ-loop : tie.MeasureT-loop
 loop-holds : tie.Need-loop-holds Inv-loop μ-loop
 loop-holds c = (search needs, squeezed-none _ _ (0 * laneLimit) _ (search needs) (omega arith), search needs, search needs)
 
-mul-squeeze : tie.Need-mul-squeeze Inv-loop μ-loop
-mul-squeeze c = search needs
-
-squeeze-requires : tie.Need-squeeze-requires Inv-loop μ-loop
-squeeze-requires c κs = search needs
-
-add-j : tie.Need-add-j Inv-loop μ-loop
-add-j c = search needs
-
-loop-less : tie.Need-loop-less Inv-loop μ-loop
-loop-less c = search needs
-
 loop-again : tie.Need-loop-again Inv-loop μ-loop
 loop-again c =
     let loop = c .before .before .before .loop in
@@ -49,9 +37,9 @@ smalls-spec =
     Inv-loop
     μ-loop
     loop-holds
-    mul-squeeze
-    squeeze-requires
-    add-j
-    loop-less
+    (λ c. search needs)
+    (λ c κs. search needs)
+    (λ c. search needs)
+    (λ c. search needs)
     loop-again
     returns)

@@ -23,36 +23,6 @@ loop-holds c =
     let e : c .before .args .at + 0 ≡ c .before .args .at = omega arith in
     (search needs, rw e (c .before .pre .3), search needs, search needs, search needs)
 
-add-s : tie.Need-add-s Inv-loop μ-loop
-add-s c = search needs
-
-add-word-at : tie.Need-add-word-at Inv-loop μ-loop
-add-word-at c = search needs
-
-mul-word-at : tie.Need-mul-word-at Inv-loop μ-loop
-mul-word-at c = search needs
-
-add-word-at-2 : tie.Need-add-word-at-2 Inv-loop μ-loop
-add-word-at-2 c = search needs
-
-word-at-requires : tie.Need-word-at-requires Inv-loop μ-loop
-word-at-requires c κs = search needs
-
-signed-requires : tie.Need-signed-requires Inv-loop μ-loop
-signed-requires c κs = search needs
-
-small-requires : tie.Need-small-requires Inv-loop μ-loop
-small-requires c κs = search needs
-
-element-write-x : tie.Need-element-write-x Inv-loop μ-loop
-element-write-x c = search needs
-
-add-i : tie.Need-add-i Inv-loop μ-loop
-add-i c = search needs
-
-loop-less : tie.Need-loop-less Inv-loop μ-loop
-loop-less c = search needs
-
 loop-again : tie.Need-loop-again Inv-loop μ-loop
 loop-again c =
     let loop = c .before .before .before .before .loop in
@@ -78,15 +48,15 @@ squeeze-spec =
     Inv-loop
     μ-loop
     loop-holds
-    add-s
-    add-word-at
-    mul-word-at
-    add-word-at-2
-    word-at-requires
-    signed-requires
-    small-requires
-    element-write-x
-    add-i
-    loop-less
+    (λ c. search needs)
+    (λ c. search needs)
+    (λ c. search needs)
+    (λ c. search needs)
+    (λ c κs. search needs)
+    (λ c κs. search needs)
+    (λ c κs. search needs)
+    (λ c. search needs)
+    (λ c. search needs)
+    (λ c. search needs)
     loop-again
     returns)

@@ -4,17 +4,11 @@ use borrow.Author.Tests.{le-ltb, lt-ltb}
 use Rattle.soundness.proofs.waiters.cell.Statement.{statement}
 use Rattle.soundness.proofs.waiters.cell.Tie as tie
 
-add-result : tie.Need-add-result
-add-result c = search needs
-
 returns : tie.Need-returns
 returns c = (search needs, sym (rw (lt-ltb (c .before .args .state) 4 (c .if1 .taken))))
-
-cast-result : tie.Need-cast-result
-cast-result c = search needs
 
 returns-2 : tie.Need-returns-2
 returns-2 c = (search needs, sym (rw (le-ltb (c .before .args .state) 4 (c .if1 .left))))
 
 pub cell-spec : {M : Type 1} → statement M
-cell-spec = tie.close (tie.spec add-result returns cast-result returns-2)
+cell-spec = tie.close (tie.spec (λ c. search needs) returns (λ c. search needs) returns-2)

@@ -23,9 +23,6 @@ abbrev μ-loop : tie.MeasureT-loop
 loop-holds : tie.Need-loop-holds Inv-loop μ-loop
 loop-holds c = (search needs, c .before .pre .1, c .before .pre .2, search needs)
 
-add-cell : tie.Need-add-cell Inv-loop μ-loop
-add-cell c = search needs
-
 shared-slice-read-cell : tie.Need-shared-slice-read-cell Inv-loop μ-loop
 shared-slice-read-cell c =
     let start = c .before .before .before .before in
@@ -42,23 +39,11 @@ cell-requires c κs =
     let h : i < processLimit = omega arith in
     (search needs, formed-state bs (start .pre .0) i h)
 
-element-copy-out-many : tie.Need-element-copy-out-many Inv-loop μ-loop
-element-copy-out-many c = search needs
-
 add-many : tie.Need-add-many Inv-loop μ-loop
 add-many c =
     let loop = c .before .before .before .before .loop in
     let f = loop .inv .1 .few (c .before .cell .result) in
     record { fits = omega arith }
-
-element-write-many : tie.Need-element-write-many Inv-loop μ-loop
-element-write-many c = search needs
-
-add-cell-2 : tie.Need-add-cell-2 Inv-loop μ-loop
-add-cell-2 c = search needs
-
-add-cell-3 : tie.Need-add-cell-3 Inv-loop μ-loop
-add-cell-3 c = search needs
 
 shared-slice-read-cell-2 : tie.Need-shared-slice-read-cell-2 Inv-loop μ-loop
 shared-slice-read-cell-2 c =
@@ -76,23 +61,11 @@ cell-requires-2 c κs =
     let h : halfLimit + i < processLimit = omega arith in
     (search needs, formed-state bs (start .pre .0) (halfLimit + i) h)
 
-element-copy-out-more : tie.Need-element-copy-out-more Inv-loop μ-loop
-element-copy-out-more c = search needs
-
 add-more : tie.Need-add-more Inv-loop μ-loop
 add-more c =
     let loop = c .before .before .before .before .before .before .before .loop in
     let f = loop .inv .2 .few (c .before .cell2 .result) in
     record { fits = omega arith }
-
-element-write-more : tie.Need-element-write-more Inv-loop μ-loop
-element-write-more c = search needs
-
-add-i : tie.Need-add-i Inv-loop μ-loop
-add-i c = search needs
-
-loop-less : tie.Need-loop-less Inv-loop μ-loop
-loop-less c = search needs
 
 loop-again : tie.Need-loop-again Inv-loop μ-loop
 loop-again c =
@@ -122,20 +95,20 @@ tally-spec =
     Inv-loop
     μ-loop
     loop-holds
-    add-cell
+    (λ c. search needs)
     shared-slice-read-cell
     cell-requires
-    element-copy-out-many
+    (λ c. search needs)
     add-many
-    element-write-many
-    add-cell-2
-    add-cell-3
+    (λ c. search needs)
+    (λ c. search needs)
+    (λ c. search needs)
     shared-slice-read-cell-2
     cell-requires-2
-    element-copy-out-more
+    (λ c. search needs)
     add-more
-    element-write-more
-    add-i
-    loop-less
+    (λ c. search needs)
+    (λ c. search needs)
+    (λ c. search needs)
     loop-again
     returns)

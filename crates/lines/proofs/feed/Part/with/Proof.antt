@@ -4,12 +4,6 @@ use borrow.Author.Needs.{needs}
 use Rattle.lines.proofs.feed.Part.with.Statement.{statement}
 use Rattle.lines.proofs.feed.Part.with.Tie as tie
 
-array-write-bytes : tie.Need-array-write-bytes
-array-write-bytes c = search needs
-
-add-t9 : tie.Need-add-t9
-add-t9 c = search needs
-
 returns : tie.Need-returns
 returns c =
     let args = c .before .before .args in
@@ -19,4 +13,4 @@ returns-2 : tie.Need-returns-2
 returns-2 c = held-full (c .before .args .self .bytes) (c .before .args .self .count) (c .before .args .c) (search needs) (c .if1 .left)
 
 pub with-spec : {M : Type 1} → statement M
-with-spec = tie.close (tie.spec array-write-bytes add-t9 returns returns-2)
+with-spec = tie.close (tie.spec (λ c. search needs) (λ c. search needs) returns returns-2)
