@@ -16,7 +16,7 @@ use Rattle.scheduling.specs.Index.{indexBelow}
 use Rattle.scheduling.specs.declared.index.Index.the-variants.{At}
 use Rattle.tables.specs.Limits.{processLimit, semaphoreLimit}
 use Rattle.tables.specs.Readers.{countOf, freeSlot, line, priorityOf, process, stateOf}
-use Rattle.tables.specs.Setters.{withCount, withProcess, withState}
+use Rattle.tables.specs.Setters.{inState, withCount, withProcess, withState}
 use Rattle.tables.specs.Sound.{Sound}
 use Rattle.tables.specs.States.{isCurrent}
 use Rattle.tables.specs.declared.Process.{Process}
@@ -121,7 +121,7 @@ module _ (z : ℤ) (p : ℕ) (at : indexBelow z processLimit ≡ At p) where
               withState t p Suspended,
               suspend-by n t Ready s ∙ ap (λ (y : ℤ). ended (withState t p Suspended) (Done y)) (value v r t st),
               stop below t st,
-              slot-still S t refl p (slot S) (record { state = Suspended; priority = priorityOf t p }) refl (ap isCurrent s),
+              slot-still S t refl p (slot S) (inState Suspended (process t p)) refl (ap isCurrent s),
             )
 
         pub suspend-current : x .state ≡ Current → Leads (λ t. step t (Suspend z)) a b (Switches v)
@@ -131,7 +131,7 @@ module _ (z : ℤ) (p : ℕ) (at : indexBelow z processLimit ≡ At p) where
               withState t p Suspended,
               suspend-by n t Current s ∙ ap (λ (y : ℤ). ended (withState t p Suspended) (Switches y)) (value v r t st),
               stop below t st,
-              slot-stopped S t refl p (slot S) (record { state = Suspended; priority = priorityOf t p }) refl (current-unique S p (ap isCurrent s)),
+              slot-stopped S t refl p (slot S) (inState Suspended (process t p)) refl (current-unique S p (ap isCurrent s)),
             )
 
       module _ (b : List ℕ) (free : p < processLimit → Turns (λ t. withProcess t p freeSlot) a b) where

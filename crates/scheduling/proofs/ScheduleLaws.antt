@@ -14,7 +14,7 @@ use Rattle.lists.specs.Lists.{filter, if_then_else_, place, putBefore, times, w
 use Rattle.rules.specs.Schedule.{joining, makeReady, makeWait, reschedule, startFirst, switch}
 use Rattle.tables.specs.Limits.{processLimit}
 use Rattle.tables.specs.Readers.{currentOf, currents, line, priorityOf, process, readyList, stateOf}
-use Rattle.tables.specs.Setters.{withOrder, withState}
+use Rattle.tables.specs.Setters.{inState, withOrder, withState}
 use Rattle.tables.specs.Sound.{Sound}
 use Rattle.tables.specs.States.{isCurrent, isReady}
 use Rattle.tables.specs.declared.Process.{Process}
@@ -92,7 +92,7 @@ module _ (c f : ℕ) (a : List ℕ) (ready : Tells (found 2) a f) where
 
     -- who is made current last runs
     last-runs : (u : Tables) → length (u .processes) ≡ processLimit → f < processLimit → Sound (withState u f Current) → f ≡ currentOf (withState u f Current)
-    last-runs u l h S = sym (current-unique S f (ap (λ (x : Process). isCurrent (x .state)) (at-same u f (record { state = Current; priority = priorityOf u f }) (omega arith))))
+    last-runs u l h S = sym (current-unique S f (ap (λ (x : Process). isCurrent (x .state)) (at-same u f (inState Current (process u f)) (omega arith))))
 
     pub resched-start : (b : List ℕ) → (getD a (statesAt + c) 0 ≡ 1 → ⊥) → (f < processLimit → Turns (λ t. withState t f Current) a b) → Reschedules c a b f
     unfolding Reschedules Turns reschedule switch startFirst
