@@ -21,8 +21,8 @@ use Rattle.tables.specs.declared.State.{State}
 use Rattle.tables.specs.declared.State.the-variants.{Current, Free, Ready, Suspended, Waiting}
 use Rattle.tables.specs.declared.Tables.{Tables}
 use Rattle.tables.specs.Counts.{CountsFit}
-use Rattle.kernel.specs.Steps.{Meets, told}
-use Rattle.kernel.specs.declared.step.Told.{Told}
+use Rattle.scheduling.specs.Steps.{Meets, told}
+use Rattle.scheduling.specs.declared.step.Told.{Told}
 use Rattle.layout.proofs.Image.{byte-at, formed-place, formed-state, stands-is, stands-made, tables-back}
 use Rattle.layout.proofs.Regions.{place-byte, state-byte}
 use Rattle.lists.proofs.Bools.{below?, split}

@@ -17,8 +17,8 @@ use Rattle.soundness.specs.Good.{good}
 use Rattle.tables.specs.Readers.{currentOf}
 use Rattle.tables.specs.Test.{soundNow}
 use Rattle.tables.specs.declared.Tables.{Tables}
-use Rattle.kernel.specs.Steps.{Meets, told}
-use Rattle.kernel.specs.declared.step.Told.{Told}
+use Rattle.scheduling.specs.Steps.{Meets, told}
+use Rattle.scheduling.specs.declared.step.Told.{Told}
 use Rattle.layout.proofs.Image.{bytes-back, same-bytes, stands-made, stands-read}
 use Rattle.lists.proofs.Bools.{split}
 use Rattle.rules.proofs.Numbers.{enter-sound, enter-unsound}

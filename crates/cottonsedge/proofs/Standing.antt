@@ -22,7 +22,7 @@ use Rattle.tables.specs.declared.Tables.{Tables}
 use Rattle.soundness.specs.Tallies.{sumOf}
 use Rattle.tables.specs.States.{isCurrent}
 use Rattle.tables.specs.Counts.{CountsFit}
-use Rattle.kernel.specs.Steps.{Runs}
+use Rattle.scheduling.specs.Steps.{Runs}
 use Rattle.layout.proofs.Image.{formed-made, stands-is, tables-back}
 use Rattle.lists.proofs.Bools.{and-in, below?, both}
 use Rattle.lists.proofs.Rows.{times-at}

@@ -11,11 +11,11 @@ use mir.Val.{SFits, ofZ, toZ}
 use mir.ValLaws.{toZ-ofZ}
 use Rattle.rules.specs.Calls.{Call, Reset, step}
 use Rattle.rules.specs.Enter.{both, first, formOf, isZero, neither, numbered}
-use Rattle.kernel.specs.Steps.{Leads}
-use Rattle.kernel.specs.declared.step.Step.{Step}
-use Rattle.kernel.specs.declared.step.Step.the-variants.{Refused}
+use Rattle.scheduling.specs.Steps.{Leads}
+use Rattle.scheduling.specs.declared.step.Step.{Step}
+use Rattle.scheduling.specs.declared.step.Step.the-variants.{Refused}
 use Rattle.rules.proofs.Numbers.{number-goes, number-past, number-spare, number-unknown}
-use Rattle.kernel.proofs.CallLaws.{alike, refuses}
+use Rattle.scheduling.proofs.StepLaws.{alike, refuses}
 
 -- arguments that were passed on are read back from their bits
 module _ (n : ℕ) (a b : ℤ) (fa : SFits w32 a) (fb : SFits w32 b) (x : List ℕ) where

@@ -1,25 +1,25 @@
 // A call by its number: 13, then 14 if an argument that the call doesn't use isn't 0, then the call's own checks.
-use crate::count::count_of;
-use crate::delete::delete;
-use crate::kill::kill;
-use crate::make_process::make_process;
-use crate::make_semaphore::make_semaphore;
-use crate::reset::reset;
-use crate::resume::resume;
-use crate::signal::signal;
-use crate::step::Step;
-use crate::step::Told;
-use crate::step::finish;
-use crate::suspend::suspend;
-use crate::wait::wait;
-use crate::yields::yields;
+use processes::kill::kill;
+use processes::make_process::make_process;
+use processes::resume::resume;
+use processes::suspend::suspend;
+use processes::yields::yields;
 use scheduling::counts::is_zero;
+use scheduling::step::Step;
+use scheduling::step::Told;
+use scheduling::step::finish;
+use semaphores::count::count_of;
+use semaphores::delete::delete;
+use semaphores::make_semaphore::make_semaphore;
+use semaphores::reset::reset;
+use semaphores::signal::signal;
+use semaphores::wait::wait;
 ghost use mathlib.Core.Path.{_≡_};
 ghost use Prim.Native.Nat.{_<_, _≤_};
 ghost use lib.ListN.{length};
 ghost use Rattle.layout.specs.Offsets.{size};
 ghost use Rattle.rules.specs.Enter.{numbered};
-ghost use Rattle.kernel.specs.Steps.{Leads, Meets, Runs};
+ghost use Rattle.scheduling.specs.Steps.{Leads, Meets, Runs};
 
 // 01 to 05, on semaphores.
 fn call_low(bytes: &mut [u8], c: u8, number: u8, a: i32, b: i32) -> Step

@@ -6,3 +6,5 @@ pub mod Moves
 pub mod Spots
 pub mod ScheduleLaws
 pub mod WaiterLaws
+pub mod RunningLaws
+pub mod StepLaws

@@ -4,3 +4,4 @@ pub mod Row
 pub mod Running
 pub mod Search
 pub mod Waiters
+pub mod Steps

@@ -6,7 +6,7 @@ use mathlib.Core.List.{List}
 use mathlib.Core.Path.{_∙_, _≡_, ap, subst, sym}
 use lib.ListN.{length}
 use borrow.Author.Needs.{needs}
-use Rattle.kernel.specs.Steps.{Meets}
+use Rattle.scheduling.specs.Steps.{Meets}
 use Rattle.layout.specs.Bytes.{toBytes}
 use Rattle.rules.specs.Enter.{numbered}
 use Rattle.soundness.specs.Good.{good}

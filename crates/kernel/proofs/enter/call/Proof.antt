@@ -1,6 +1,6 @@
 use borrow.Author.Needs.{needs}
 use Rattle.kernel.proofs.enter.call.Statement.{statement}
-use Rattle.kernel.proofs.CallLaws.{leads-end}
+use Rattle.scheduling.proofs.StepLaws.{leads-end}
 use Rattle.kernel.proofs.EnterLaws.{handed-on}
 use Rattle.rules.proofs.Kept.{sound-numbered}
 use Rattle.kernel.proofs.enter.call.Tie as tie

@@ -1,0 +1,2 @@
+pub mod ProcessLaws
+pub mod MakeLaws
