@@ -3,7 +3,7 @@ use Prim.Native.Nat.{_+_, _≤_, suc, ℕ}
 use native.Mathlib.Omega.{arith}
 use mathlib.Core.Path.{_∙_, _≡_, ap, fun-ext, refl, sym}
 use mathlib.Core.Logic.{_≢_}
-use mathlib.Core.Bool.{Bool, _&&_, _||_, false, not, true, and-true, or-false}
+use mathlib.Core.Bool.{Bool, _&&_, _||_, false, not, true, and-true}
 use mathlib.Core.List.{List, [], _++_, _∷_, cons≢nil}
 use lib.Dec.{eqb}
 use lib.ListN.{length, replicate}

@@ -1,14 +1,13 @@
 -- What a call does to the semaphores as they are seen: used, count, queue. Assumes nothing.
 use Prim.Native.Nat.{ℕ, _<_}
-use mathlib.Core.Bool.{Bool, true, false}
+use mathlib.Core.Bool.{Bool, false}
 use mathlib.Core.List.{List}
 use mathlib.Core.Logic.{_≢_}
 use mathlib.Core.Path.{_≡_, refl, sym, ap, _∙_}
-use lib.Dec.{eqb}
 use lib.IntN.{ℤ, pos}
 use lib.ListN.{length, getD, set, length-set}
 use lib.Seq.{getD-set-same, getD-set-other}
-use borrow.Author.Tests.{eqb-true, eqb-false}
+use Rattle.lists.proofs.Bools.{either}
 use Rattle.tables.specs.declared.State.{State}
 use Rattle.tables.specs.declared.Semaphore.{Semaphore}
 use Rattle.tables.specs.declared.Tables.{Tables}
@@ -37,16 +36,15 @@ effect-sound {t} {t′} {s} {u} {c} {q} S E hc hu =
     record {
       laid = E .laid;
       running = E .running;
-      queued = record { counted = λ r. counted r (eqb r s) refl; unused = λ r. unused r (eqb r s) refl };
+      queued = record {
+        counted = λ r. either r s
+            (λ e. rw (e, E .here .count, E .here .waiters) hc)
+            (λ d. rw (E .elsewhere r d .count, E .elsewhere r d .waiters) (S .queued .counted r));
+        unused = λ r k. either r s
+            (λ e. rw e (E .here .count ∙ hu (sym (E .here .used) ∙ ap (isUsed t′) (sym e) ∙ k)))
+            (λ d. E .elsewhere r d .count ∙ S .queued .unused r (sym (E .elsewhere r d .used) ∙ k));
+      };
     }
-  where
-    counted : (r : ℕ) (b : Bool) → eqb r s ≡ b → Counted (countOf t′ r) (queue t′ r)
-    counted r true e = rw (eqb-true r s e, E .here .count, E .here .waiters) hc
-    counted r false e = rw (E .elsewhere r (eqb-false r s e) .count, E .elsewhere r (eqb-false r s e) .waiters) (S .queued .counted r)
-
-    unused : (r : ℕ) (b : Bool) → eqb r s ≡ b → isUsed t′ r ≡ false → countOf t′ r ≡ pos 0
-    unused r true e k = ap (countOf t′) (eqb-true r s e) ∙ E .here .count ∙ hu (sym (E .here .used) ∙ ap (isUsed t′) (sym (eqb-true r s e)) ∙ k)
-    unused r false e k = E .elsewhere r (eqb-false r s e) .count ∙ S .queued .unused r (sym (E .elsewhere r (eqb-false r s e) .used) ∙ k)
 
 -- A semaphore's entry
 
@@ -105,10 +103,12 @@ settled-shows g r =
     }
 
 pub settled-sound : {t t′ : Tables} → Sound t → Settled t t′ → Sound t′
-settled-sound {t} {t′} S g = record { laid = g .laid; running = g .running; queued = record { counted = counted; unused = unused } }
-  where
-    counted : (s : ℕ) → Counted (countOf t′ s) (queue t′ s)
-    counted s = rw (settled-shows g s .count, settled-shows g s .waiters) (S .queued .counted s)
-
-    unused : (s : ℕ) → isUsed t′ s ≡ false → countOf t′ s ≡ pos 0
-    unused s h = settled-shows g s .count ∙ S .queued .unused s (sym (settled-shows g s .used) ∙ h)
+settled-sound S g =
+    record {
+      laid = g .laid;
+      running = g .running;
+      queued = record {
+        counted = λ s. rw (settled-shows g s .count, settled-shows g s .waiters) (S .queued .counted s);
+        unused = λ s h. settled-shows g s .count ∙ S .queued .unused s (sym (settled-shows g s .used) ∙ h);
+      };
+    }

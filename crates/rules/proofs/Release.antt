@@ -36,33 +36,21 @@ record Freed (s : ℕ) (t t′ : Tables) : Type 0 where
 all-ready : (s : ℕ) (q : List ℕ) (t : Tables) → Laid t → Zero t → queue t s ≡ q → Freed s t (makeAllReady t q)
 unfolding makeAllReady
 all-ready s [] t l z e = record { laid = l; few = refl; zero = z; semaphores = refl; gone = e; others = λ r h. refl }
-all-ready s (f ∷ fs) t l z e = go (all-ready s fs (makeReady t f) (laid-ready l f below (ap isFree waits)) (zero-moved m refl z) rest)
-  where
-    waits : stateOf t f ≡ Waiting s
-    waits = waits-on (stateOf t f) s (line-first t (waitsOn s) f fs e)
-
-    below : f < processLimit
-    below = live-below l f (ap isFree waits)
-
-    m : Turned t (makeReady t f) f Ready
-    m = ready-moved l f below
-
-    once : times f (f ∷ fs) ≡ 1
-    once = ap (times f) (sym e) ∙ in-line l f (waitsOn s) below ∙ rw (waits, eq-eqb s s refl)
-
-    rest : queue (makeReady t f) s ≡ fs
-    rest = m .leaves (waitsOn s) refl ∙ ap (without f) e ∙ without-first f fs once
-
-    go : Freed s (makeReady t f) (makeAllReady (makeReady t f) fs) → Freed s t (makeAllReady (makeReady t f) fs)
-    go g =
-        record {
-          laid = g .laid;
-          few = g .few ∙ line-kept m isCurrent refl (ap isCurrent waits);
-          zero = g .zero;
-          semaphores = g .semaphores ∙ m .semaphores;
-          gone = g .gone;
-          others = λ r h. g .others r h ∙ line-kept m (waitsOn r) refl (ap (waitsOn r) waits ∙ ne-eqb s r (λ d. h (sym d)));
-        }
+all-ready s (f ∷ fs) t l z e =
+    let waits : stateOf t f ≡ Waiting s = waits-on (stateOf t f) s (line-first t (waitsOn s) f fs e) in
+    let below : f < processLimit = live-below l f (ap isFree waits) in
+    let m : Turned t (makeReady t f) f Ready = ready-moved l f below in
+    let once : times f (f ∷ fs) ≡ 1 = ap (times f) (sym e) ∙ in-line l f (waitsOn s) below ∙ rw (waits, eq-eqb s s refl) in
+    let rest : queue (makeReady t f) s ≡ fs = m .leaves (waitsOn s) refl ∙ ap (without f) e ∙ without-first f fs once in
+    let g = all-ready s fs (makeReady t f) (laid-ready l f below (ap isFree waits)) (zero-moved m refl z) rest in
+    record {
+      laid = g .laid;
+      few = g .few ∙ line-kept m isCurrent refl (ap isCurrent waits);
+      zero = g .zero;
+      semaphores = g .semaphores ∙ m .semaphores;
+      gone = g .gone;
+      others = λ r h. g .others r h ∙ line-kept m (waitsOn r) refl (ap (waitsOn r) waits ∙ ne-eqb s r (λ d. h (sym d)));
+    }
 
 module _ {t : Tables} (S : Sound t) (s : ℕ) (x : Semaphore) where
   freed : Freed s (withSemaphore t s x) (makeAllReady (withSemaphore t s x) (queue t s))
