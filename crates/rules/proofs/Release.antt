@@ -1,26 +1,22 @@
 -- Delete and reset: every waiter is released. Assumes nothing.
-use Prim.Native.Nat.{ℕ, _<_}
+use Prim.Native.Nat.{ℕ}
 use native.Mathlib.Omega.{arith}
 use mathlib.Core.Bool.{true, false, not, true≢false}
 use mathlib.Core.List.{List, [], _∷_}
 use mathlib.Core.Logic.{_≢_}
 use mathlib.Core.Path.{_≡_, refl, sym, ap, _∙_}
-use borrow.Author.Tests.{eq-eqb, ne-eqb}
-use Rattle.lists.specs.Lists.{without, times, isEmpty}
-use Rattle.lists.proofs.ListLaws.{without-first}
-use Rattle.tables.specs.declared.State.the-variants.{Ready, Waiting}
+use borrow.Author.Tests.{ne-eqb}
+use Rattle.lists.specs.Lists.{isEmpty}
 use Rattle.tables.specs.declared.Semaphore.{Semaphore}
 use Rattle.tables.specs.declared.Tables.{Tables}
-use Rattle.tables.specs.Limits.{processLimit}
 use Rattle.tables.specs.States.{isFree, isCurrent, waitsOn}
-use Rattle.tables.specs.Readers.{stateOf, isUsed, queue, currents}
+use Rattle.tables.specs.Readers.{isUsed, queue, currents}
 use Rattle.tables.specs.Setters.{withSemaphore}
 use Rattle.tables.specs.Sound.{Laid, Running, Sound}
-use Rattle.tables.proofs.States.{waits-on}
-use Rattle.tables.proofs.LineLaws.{line-first, live-below, used-entry, in-line}
+use Rattle.tables.proofs.LineLaws.{used-entry}
 use Rattle.rules.specs.Schedule.{makeReady, makeAllReady}
 use Rattle.rules.specs.Calls.{release, finish}
-use Rattle.rules.proofs.Moves.{Turned, ready-moved, laid-ready}
+use Rattle.rules.proofs.Moves.{ready-moved, laid-ready, head-waits, head-below, head-leaves}
 use Rattle.rules.proofs.Resched.{Zero, line-kept, zero-moved, Prepared}
 use Rattle.rules.proofs.Effects.{Effect, line-entry, laid-entry, running-entry, effect-done}
 
@@ -37,12 +33,10 @@ all-ready : (s : ℕ) (q : List ℕ) (t : Tables) → Laid t → Zero t → queu
 unfolding makeAllReady
 all-ready s [] t l z e = record { laid = l; few = refl; zero = z; semaphores = refl; gone = e; others = λ r h. refl }
 all-ready s (f ∷ fs) t l z e =
-    let waits : stateOf t f ≡ Waiting s = waits-on (stateOf t f) s (line-first t (waitsOn s) f fs e) in
-    let below : f < processLimit = live-below l f (ap isFree waits) in
-    let m : Turned t (makeReady t f) f Ready = ready-moved l f below in
-    let once : times f (f ∷ fs) ≡ 1 = ap (times f) (sym e) ∙ in-line l f (waitsOn s) below ∙ rw (waits, eq-eqb s s refl) in
-    let rest : queue (makeReady t f) s ≡ fs = m .leaves (waitsOn s) refl ∙ ap (without f) e ∙ without-first f fs once in
-    let g = all-ready s fs (makeReady t f) (laid-ready l f below (ap isFree waits)) (zero-moved m refl z) rest in
+    let waits = head-waits l s f fs e in
+    let below = head-below l s f fs e in
+    let m = ready-moved l f below in
+    let g = all-ready s fs (makeReady t f) (laid-ready l f below (ap isFree waits)) (zero-moved m refl z) (head-leaves l s f fs e) in
     record {
       laid = g .laid;
       few = g .few ∙ line-kept m isCurrent refl (ap isCurrent waits);
