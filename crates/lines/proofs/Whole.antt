@@ -107,7 +107,9 @@ whole-answers bytes line [] = split (isEmpty line) (λ e. rw (empty-held line, e
 whole-answers bytes line (c ∷ cs) =
     whole-next (holds bytes line) c cs
     ∙ split (eqb c newline)
-    (λ e. rw (e, eqb-true c newline e, ended-held bytes line, ended-written bytes line, whole-answers (tablesAfter bytes (lineOf line)) [] cs, begun-none (linesOf cs), append-nil line))
+    (λ e.
+    let on = whole-answers (tablesAfter bytes (lineOf line)) [] cs in
+    rw (e, eqb-true c newline e, ended-held bytes line, ended-written bytes line, on, begun-none (linesOf cs), append-nil line))
     (λ e. rw (e, more-held bytes line c e, more-written bytes line c e, whole-answers bytes (line ++ c ∷ []) cs, begun-more line c (linesOf cs)))
 
 -- chunks

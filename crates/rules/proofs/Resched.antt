@@ -74,11 +74,11 @@ ready-top {t} l f fs e p h =
     atMost-member (priorityOf t) (priorityOf t f) (f ∷ fs) p (omega arith, fall .0) (omega arith)
 
 module _ (t : Tables) (l : Laid t) (none : currents t ≡ []) (z : Zero t) (f : ℕ) (fs : List ℕ) (e : readyList t ≡ f ∷ fs) where
-  f-ready : isReady (stateOf t f) ≡ true
-  f-ready = line-first t isReady f fs e
+  f-ready : stateOf t f ≡ Ready
+  f-ready = is-ready (stateOf t f) (line-first t isReady f fs e)
 
   f-below : f < processLimit
-  f-below = live-below l f (ap isFree (is-ready (stateOf t f) f-ready))
+  f-below = live-below l f (ap isFree f-ready)
 
   f-moved : Turned t (withState t f Current) f Current
   f-moved = moved-slot t f _ (live-slot l f f-below)
@@ -95,7 +95,7 @@ module _ (t : Tables) (l : Laid t) (none : currents t ≡ []) (z : Zero t) (f : 
   dispatch-settled =
       let after : Tables = withState t f Current in
       record {
-        laid = laid-turned l f-moved refl (ap isFree (is-ready (stateOf t f) f-ready)) (falling-left l f-moved refl);
+        laid = laid-turned l f-moved refl (ap isFree f-ready) (falling-left l f-moved refl);
         running = record {
           one = ap length f-current;
           zero = zero-moved f-moved refl z;
@@ -105,7 +105,7 @@ module _ (t : Tables) (l : Laid t) (none : currents t ≡ []) (z : Zero t) (f : 
               omega (arith, f-top p k);
         };
         semaphores = refl;
-        queues = λ s. line-kept f-moved (waitsOn s) refl (ap (waitsOn s) (is-ready (stateOf t f) f-ready));
+        queues = λ s. line-kept f-moved (waitsOn s) refl (ap (waitsOn s) f-ready);
       }
 
 pub start-settled : (t : Tables) → Laid t → currents t ≡ [] → Zero t → (r : List ℕ) → readyList t ≡ r → r ≢ [] → Settled t (startFirst t r)

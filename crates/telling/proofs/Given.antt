@@ -81,16 +81,11 @@ given-8 {t} S =
     let free : ℕ → Bool = λ p. isFree (stateOf t p) in
     let from : ℕ = t .«next_process» in
     let k : from < processLimit = S .laid .cursors .1 in
-    let zero-live : stateOf t 0 ≢ Free = λ e. true≢false (sym (S .running .zero) ∙ ap (λ (st : State). isCurrent st || isReady st) e) in (
-      refl,
-      (
-        λ e p b l f. true≢false (sym (ap isFree f) ∙ none-found free processLimit from k e p l),
-        λ n. found-none free processLimit from k
-            (λ p l. split (free p)
-            (λ e. let f : stateOf t p ≡ Free = is-free (stateOf t p) e in absurd (either p 0 (λ z. zero-live (rw z at f)) (λ z. n p (omega arith) l f)))
-            (λ e. e)),
-      ),
-    )
+    let zero-live : stateOf t 0 ≢ Free = λ e. true≢false (sym (S .running .zero) ∙ ap (λ (st : State). isCurrent st || isReady st) e) in
+    let live : allLive t .holds → (p : ℕ) → p < processLimit → free p ≡ false = λ n p l. split (free p)
+    (λ e. let f : stateOf t p ≡ Free = is-free (stateOf t p) e in absurd (either p 0 (λ z. zero-live (rw z at f)) (λ z. n p (omega arith) l f)))
+    (λ e. e) in
+    (refl, (λ e p b l f. true≢false (sym (ap isFree f) ∙ none-found free processLimit from k e p l), λ n. found-none free processLimit from k (live n)))
 
 pub given-9-resume : (t : Tables) (a : ℤ) → Exactly (9 when not (isSuspended (stateOf t (natAbs a)))) (notSuspended t a)
 given-9-resume t a = let st = stateOf t (natAbs a) in (refl, tests-not (isSuspended st) (is-suspended st, ap isSuspended))

@@ -91,8 +91,8 @@ module _ {t : Tables} (S : Sound t) (x : ℕ) (q : Quiet t x) where
   not-head : (s : ℕ) → below0 (countOf t s) ≡ true → x ≢ first (queue t s)
   unfolding firstOr times
   not-head s h e =
-      let first = line-first t (waitsOn s) (first (queue t s)) (drop 1 (queue t s)) (first-waiter (countOf t s) (queue t s) h (S .queued .counted s)) in
-      true≢false (sym first ∙ ap (λ (p : ℕ). waitsOn s (stateOf t p)) (sym e) ∙ quiet-not (stateOf t x) q .2 s)
+      let waits = line-first t (waitsOn s) (first (queue t s)) (drop 1 (queue t s)) (first-waiter (countOf t s) (queue t s) h (S .queued .counted s)) in
+      true≢false (sym waits ∙ ap (λ (p : ℕ). waitsOn s (stateOf t p)) (sym e) ∙ quiet-not (stateOf t x) q .2 s)
 
   deed-slot : (c : Call) → PassesBy t c x → Accepted t c → process (deed t c .tables) x ≡ process t x
   deed-slot (Wait a) h k =
