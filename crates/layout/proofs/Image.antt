@@ -22,7 +22,7 @@ use Rattle.tables.specs.declared.State.{State}
 use Rattle.tables.specs.declared.State.the-variants.{Current, Free, Ready, Suspended, Waiting}
 use Rattle.lists.proofs.Bools.{and-in, below?, both, either}
 use Rattle.lists.proofs.NumberLaws.{all-at, all-true, listed-all, listed-at, listed-length}
-use Rattle.layout.specs.Bytes.{byteOf, byteState, countAt, flagPlain, fromBytes, placeAt, placeNamed, processAt, semaphoreAt, stateByte, stateNamed, toBytes, usedByte, wellFormed, wordAt, wordByte}
+use Rattle.layout.specs.Bytes.{byteOf, byteState, countAt, flagPlain, fromBytes, placeAt, placeNamed, processAt, semaphoreAt, stateByte, stateNamed, toBytes, usedByte, wellFormed, wordAt, wordByte, waitingFrom}
 use Rattle.layout.specs.Offsets.{countsAt, nextProcessAt, nextSemaphoreAt, orderAt, prioritiesAt, size, statesAt, usedAt}
 use Rattle.layout.specs.Stands.{Held, Named, Stands}
 use Rattle.layout.proofs.Words.{word-said, word-small}
@@ -99,8 +99,8 @@ module _ (bs : List ℕ) (wf : wellFormed bs ≡ true) where
   unfolding wellFormed
   rest = both (eqb (length bs) size) _ wf .1
 
-  pub formed-state : (p : ℕ) → p < processLimit → getD bs (statesAt + p) 0 < 4 + semaphoreLimit
-  formed-state p h = ltb-true _ (4 + semaphoreLimit) (all-at (stateNamed bs) processLimit p (both (all processLimit (stateNamed bs)) _ rest .0) h)
+  pub formed-state : (p : ℕ) → p < processLimit → getD bs (statesAt + p) 0 < waitingFrom + semaphoreLimit
+  formed-state p h = ltb-true _ (waitingFrom + semaphoreLimit) (all-at (stateNamed bs) processLimit p (both (all processLimit (stateNamed bs)) _ rest .0) h)
 
   formed-flag : (s : ℕ) → s < semaphoreLimit → getD bs (usedAt + s) 0 < 2
   formed-flag s h = ltb-true _ 2 (all-at (flagPlain bs) semaphoreLimit s (both (all semaphoreLimit (flagPlain bs)) _ (both (all processLimit (stateNamed bs)) _ rest .1) .0) h)
@@ -115,13 +115,13 @@ formed-made t h =
     let st = stands-made t h in
     and-in (eq-eqb (length (toBytes t)) size (bytes-long t))
     (and-in (all-true processLimit (stateNamed (toBytes t))
-    (λ p k. lt-ltb (getD (toBytes t) (statesAt + p) 0) (4 + semaphoreLimit) (rw (state-stands t (toBytes t) st p k) (state-small (stateOf t p) (h .waits p k)))))
+    (λ p k. lt-ltb (getD (toBytes t) (statesAt + p) 0) (waitingFrom + semaphoreLimit) (rw (state-stands t (toBytes t) st p k) (state-small (stateOf t p) (h .waits p k)))))
     (and-in (all-true semaphoreLimit (flagPlain (toBytes t))
     (λ s k. lt-ltb (getD (toBytes t) (usedAt + s) 0) 2 (rw (used-stands t (toBytes t) st s k) (used-small (isUsed t s)))))
     (all-true processLimit (placeNamed (toBytes t))
     (λ i k. lt-ltb (getD (toBytes t) (orderAt + i) 0) processLimit (rw (place-read t (toBytes t) st i k) (h .row i k))))))
   where
-    state-small : (s : State) → Named s → stateByte s < 4 + semaphoreLimit
+    state-small : (s : State) → Named s → stateByte s < waitingFrom + semaphoreLimit
     state-small Free n = omega arith
     state-small Current n = omega arith
     state-small Ready n = omega arith
@@ -134,13 +134,13 @@ formed-made t h =
 
 -- One entry of well formed bytes
 
-pub state-back : (b : ℕ) → b < 4 + semaphoreLimit → (stateByte (byteState b) ≡ b) × Named (byteState b)
+pub state-back : (b : ℕ) → b < waitingFrom + semaphoreLimit → (stateByte (byteState b) ≡ b) × Named (byteState b)
 state-back b h =
     either b 0 (λ e. rw e (refl, tt))
     (λ n0. either b 1 (λ e. rw e (refl, tt))
     (λ n1. either b 2 (λ e. rw e (refl, tt))
     (λ n2. either b 3 (λ e. rw e (refl, tt))
-    (λ n3. rw (byte-waiting b (omega arith)) (rw (lt-ltb (b - 4) semaphoreLimit (omega arith)) (omega arith), omega arith)))))
+    (λ n3. rw (byte-waiting b (omega arith)) (rw (lt-ltb (b - waitingFrom) semaphoreLimit (omega arith)) (omega arith), omega arith)))))
 
 used-back : (u : ℕ) → u < 2 → usedByte (eqb u 1) ≡ u
 used-back u h = either u 0 (λ e. rw e refl) (λ n. let e : u ≡ 1 = omega arith in rw e refl)

@@ -17,14 +17,14 @@ use Rattle.tables.specs.declared.Tables.{Tables}
 use Rattle.tables.specs.Limits.{processLimit, semaphoreLimit}
 use Rattle.tables.specs.Readers.{countOf, isUsed, priorityOf, process, semaphore, stateOf}
 use Rattle.layout.specs.Offsets.{countsAt, nextProcessAt, nextSemaphoreAt, orderAt, prioritiesAt, statesAt, usedAt}
-use Rattle.layout.specs.Bytes.{byteState, countAt, processAt, semaphoreAt, stateByte, usedByte}
+use Rattle.layout.specs.Bytes.{byteState, countAt, processAt, semaphoreAt, stateByte, usedByte, waitingFrom}
 use Rattle.layout.specs.Stands.{Named, Stands, Tells}
 use Rattle.layout.proofs.Words.{word-read}
 use Rattle.layout.proofs.Regions.{count-byte, place-byte, priority-byte, state-byte, used-byte}
 
 -- One entry as bytes, and back
 
-pub byte-waiting : (b : ℕ) → 4 ≤ b → byteState b ≡ Waiting (b - 4)
+pub byte-waiting : (b : ℕ) → waitingFrom ≤ b → byteState b ≡ Waiting (b - waitingFrom)
 byte-waiting b h = rw (ne-eqb b 0 (omega arith), ne-eqb b 1 (omega arith), ne-eqb b 2 (omega arith), ne-eqb b 3 (omega arith))
 
 state-there : (s : State) → Named s → byteState (stateByte s) ≡ s
@@ -32,7 +32,7 @@ state-there Free h = refl
 state-there Current h = refl
 state-there Ready h = refl
 state-there Suspended h = refl
-state-there (Waiting q) h = rw (lt-ltb q semaphoreLimit h) (byte-waiting (4 + q) (omega arith) ∙ ap Waiting (omega arith))
+state-there (Waiting q) h = rw (lt-ltb q semaphoreLimit h) (byte-waiting (waitingFrom + q) (omega arith) ∙ ap Waiting (omega arith))
 
 used-there : (u : Bool) → eqb (usedByte u) 1 ≡ u
 used-there true = refl

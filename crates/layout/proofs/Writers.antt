@@ -96,52 +96,23 @@ module _ (t : Tables) where
 
 -- Each field
 
-module _ (t : Tables) (bs : List ℕ) (st : Stands t bs) where
-  put-state : (p : ℕ) (s : State) → p < processLimit → Named s → Stands (withState t p s) (set bs (statesAt + p) (stateByte s))
-  put-state p s h named =
+put-priority : (t : Tables) (bs : List ℕ) → Stands t bs → (p v : ℕ) → p < processLimit → Stands (withPriority t p v) (set bs (prioritiesAt + p) v)
+put-priority t bs st p v h =
+    let x : Process = record { state = stateOf t p; priority = v } in
+    let hp : p < length (t .processes) = omega (arith, st .held .slots) in
+    put-byte t (withPriority t p v) bs st (held-process t (st .held) p x h (st .held .waits p h)) (prioritiesAt + p) v (omega arith)
+    (priority-byte (withPriority t p v) p (prioritiesAt + p) h refl ∙ here (t .processes) p x freeSlot hp (λ (y : Process). y .priority))
+    (λ i q. process-same t p x hp i (λ e. refl) (λ e. absurd (q e)))
+
+module _ (bs : List ℕ) where
+  pub state-turns : (p : ℕ) (s : State) → p < processLimit → Named s → Turns (λ t. withState t p s) bs (set bs (statesAt + p) (stateByte s))
+  unfolding Turns
+  state-turns p s h named t st =
       let x : Process = record { state = s; priority = priorityOf t p } in
       let hp : p < length (t .processes) = omega (arith, st .held .slots) in
       put-byte t (withState t p s) bs st (held-process t (st .held) p x h named) (statesAt + p) (stateByte s) (omega arith)
       (state-byte (withState t p s) p (statesAt + p) h refl ∙ here (t .processes) p x freeSlot hp (λ (y : Process). stateByte (y .state)))
       (λ i q. process-same t p x hp i (λ e. absurd (q e)) (λ e. refl))
-
-  put-priority : (p v : ℕ) → p < processLimit → Stands (withPriority t p v) (set bs (prioritiesAt + p) v)
-  put-priority p v h =
-      let x : Process = record { state = stateOf t p; priority = v } in
-      let hp : p < length (t .processes) = omega (arith, st .held .slots) in
-      put-byte t (withPriority t p v) bs st (held-process t (st .held) p x h (st .held .waits p h)) (prioritiesAt + p) v (omega arith)
-      (priority-byte (withPriority t p v) p (prioritiesAt + p) h refl ∙ here (t .processes) p x freeSlot hp (λ (y : Process). y .priority))
-      (λ i q. process-same t p x hp i (λ e. refl) (λ e. absurd (q e)))
-
-  put-used : (s : ℕ) (u : Bool) → s < semaphoreLimit → Stands (withUsed t s u) (set bs (usedAt + s) (usedByte u))
-  put-used s u h =
-      let x : Semaphore = record { used = u; count = countOf t s } in
-      let hs : s < length (t .semaphores) = omega (arith, st .held .entries) in
-      put-byte t (withUsed t s u) bs st (held-semaphore t (st .held) s x h (st .held .fits s)) (usedAt + s) (usedByte u) (omega arith)
-      (used-byte (withUsed t s u) s (usedAt + s) h refl ∙ here (t .semaphores) s x freeSemaphore hs (λ (y : Semaphore). usedByte (y .used)))
-      (λ i q. semaphore-same t s x hs i (λ e. absurd (q e)) (λ d hd e. refl))
-
-  put-count : (s : ℕ) (c : ℤ) → s < semaphoreLimit → SFits w32 c → Stands (withCount t s c) (store4 bs (countsAt + s * 4) (ofZ w32 c))
-  put-count s c h f =
-      let x : Semaphore = record { used = isUsed t s; count = c } in
-      let hs : s < length (t .semaphores) = omega (arith, st .held .entries) in
-      put-word t (withCount t s c) bs st (held-semaphore t (st .held) s x h f) (countsAt + s * 4) (ofZ w32 c) (omega arith)
-      (λ d hd. count-byte (withCount t s c) s d (countsAt + s * 4 + d) h hd refl ∙ here (t .semaphores) s x freeSemaphore hs (λ (y : Semaphore). wordByte (ofZ w32 (y .count)) d))
-      (λ i q. semaphore-same t s x hs i (λ e. refl) (λ d hd e. absurd (q d hd e)))
-
-  put-place : (j q : ℕ) → j < processLimit → q < processLimit → Stands (withOrder t (set (t .order) j q)) (set bs (orderAt + j) q)
-  put-place j q h hq =
-      let ho : j < length (t .order) = omega (arith, st .held .places) in
-      let t′ : Tables = withOrder t (set (t .order) j q) in
-      put-byte t t′ bs st (held-place t (st .held) j q h hq) (orderAt + j) q (omega arith)
-      (place-byte t′ j (orderAt + j) h refl ∙ getD-set-same (t .order) j q 0 ho) (place-same t j q ho)
-
--- As writers
-
-module _ (bs : List ℕ) where
-  pub state-turns : (p : ℕ) (s : State) → p < processLimit → Named s → Turns (λ t. withState t p s) bs (set bs (statesAt + p) (stateByte s))
-  unfolding Turns
-  state-turns p s h named t st = put-state t bs st p s h named
 
   pub process-turns : (p : ℕ) (x : Process) → p < processLimit → Named (x .state) → Turns (λ t. withProcess t p x) bs (set (set bs (statesAt + p) (stateByte (x .state))) (prioritiesAt + p) (x .priority))
   unfolding Turns
@@ -151,19 +122,33 @@ module _ (bs : List ℕ) where
       let b : List ℕ = set (set bs (statesAt + p) (stateByte (x .state))) (prioritiesAt + p) (x .priority) in
       subst (λ (z : List Process). Stands (withProcesses t z) b) (set-set (t .processes) p y x)
       (subst (λ (z : State). Stands (withProcess (withState t p (x .state)) p (record { state = z; priority = x .priority })) b) (here (t .processes) p y freeSlot hp (λ (z : Process). z .state))
-      (put-priority (withState t p (x .state)) (set bs (statesAt + p) (stateByte (x .state))) (put-state t bs st p (x .state) h named) p (x .priority) h))
+      (put-priority (withState t p (x .state)) (set bs (statesAt + p) (stateByte (x .state))) (state-turns p (x .state) h named t st) p (x .priority) h))
 
   pub used-turns : (s : ℕ) (u : Bool) → s < semaphoreLimit → Turns (λ t. withUsed t s u) bs (set bs (usedAt + s) (usedByte u))
   unfolding Turns
-  used-turns s u h t st = put-used t bs st s u h
+  used-turns s u h t st =
+      let x : Semaphore = record { used = u; count = countOf t s } in
+      let hs : s < length (t .semaphores) = omega (arith, st .held .entries) in
+      put-byte t (withUsed t s u) bs st (held-semaphore t (st .held) s x h (st .held .fits s)) (usedAt + s) (usedByte u) (omega arith)
+      (used-byte (withUsed t s u) s (usedAt + s) h refl ∙ here (t .semaphores) s x freeSemaphore hs (λ (y : Semaphore). usedByte (y .used)))
+      (λ i q. semaphore-same t s x hs i (λ e. absurd (q e)) (λ d hd e. refl))
 
   pub count-turns : (s : ℕ) (c : ℤ) → s < semaphoreLimit → SFits w32 c → Turns (λ t. withCount t s c) bs (store4 bs (countsAt + s * 4) (ofZ w32 c))
   unfolding Turns
-  count-turns s c h f t st = put-count t bs st s c h f
+  count-turns s c h f t st =
+      let x : Semaphore = record { used = isUsed t s; count = c } in
+      let hs : s < length (t .semaphores) = omega (arith, st .held .entries) in
+      put-word t (withCount t s c) bs st (held-semaphore t (st .held) s x h f) (countsAt + s * 4) (ofZ w32 c) (omega arith)
+      (λ d hd. count-byte (withCount t s c) s d (countsAt + s * 4 + d) h hd refl ∙ here (t .semaphores) s x freeSemaphore hs (λ (y : Semaphore). wordByte (ofZ w32 (y .count)) d))
+      (λ i q. semaphore-same t s x hs i (λ e. refl) (λ d hd e. absurd (q d hd e)))
 
-  pub place-turns : (i q : ℕ) → i < processLimit → q < processLimit → Turns (λ t. withOrder t (set (t .order) i q)) bs (set bs (orderAt + i) q)
+  pub place-turns : (j q : ℕ) → j < processLimit → q < processLimit → Turns (λ t. withOrder t (set (t .order) j q)) bs (set bs (orderAt + j) q)
   unfolding Turns
-  place-turns i q h hq t st = put-place t bs st i q h hq
+  place-turns j q h hq t st =
+      let ho : j < length (t .order) = omega (arith, st .held .places) in
+      let t′ : Tables = withOrder t (set (t .order) j q) in
+      put-byte t t′ bs st (held-place t (st .held) j q h hq) (orderAt + j) q (omega arith)
+      (place-byte t′ j (orderAt + j) h refl ∙ getD-set-same (t .order) j q 0 ho) (place-same t j q ho)
 
   pub next-semaphore-turns : (s : ℕ) → Turns (λ t. withNextSemaphore t s) bs (set bs nextSemaphoreAt s)
   unfolding Turns

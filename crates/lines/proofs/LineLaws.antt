@@ -22,11 +22,7 @@ isValue Wrong = false
 digits-append : (a b : List ℕ) → allDigits (a ++ b) ≡ (allDigits a && allDigits b)
 unfolding allDigits
 digits-append [] b = refl
-digits-append (c ∷ cs) b = go (ltb (digitOf c) 16) (digits-append cs b)
-  where
-    go : (d : Bool) → allDigits (cs ++ b) ≡ (allDigits cs && allDigits b) → (d && allDigits (cs ++ b)) ≡ ((d && allDigits cs) && allDigits b)
-    go true ih = ih
-    go false ih = refl
+digits-append (c ∷ cs) b = let ih = digits-append cs b in split (ltb (digitOf c) 16) (λ e. rw (e, ih)) (λ e. rw e)
 
 read-right : (n : ℕ) (cs : List ℕ) → isValue (readOn n cs) ≡ allDigits cs
 unfolding readOn allDigits

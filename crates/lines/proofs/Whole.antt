@@ -3,7 +3,7 @@ use Prim.Native.Nat.{ℕ, _≤_}
 use native.Mathlib.Nat.{min-eq-left}
 use native.Mathlib.Omega.{arith}
 use mathlib.Core.Path.{_≡_, refl, sym, ap, _∙_}
-use mathlib.Core.Bool.{Bool, true, false}
+use mathlib.Core.Bool.{false}
 use mathlib.Core.List.{List, [], _∷_, _++_, append-nil, append-assoc}
 use lib.Dec.{eqb}
 use lib.ListN.{length, take, drop, length-append, length-take}
@@ -104,13 +104,13 @@ whole-next h c cs = append-assoc (writtenNext h c) (writtenOver (heldNext h c) c
 whole-answers : (bytes line cs : List ℕ) → whole (holds bytes line) cs ≡ answersTo bytes (begun line (linesOf cs))
 unfolding writtenOver heldAfter ending answersTo linesOf
 whole-answers bytes line [] = split (isEmpty line) (λ e. rw (empty-held line, e)) (λ e. rw (empty-held line, e, ended-written bytes line))
-whole-answers bytes line (c ∷ cs) = whole-next (holds bytes line) c cs ∙ go (eqb c newline) refl (whole-answers (tablesAfter bytes (lineOf line)) [] cs) (whole-answers bytes (line ++ c ∷ []) cs)
-  where
-    go : (b : Bool) → eqb c newline ≡ b → whole (holds (tablesAfter bytes (lineOf line)) []) cs ≡ answersTo (tablesAfter bytes (lineOf line)) (begun [] (linesOf cs)) →
-        whole (holds bytes (line ++ c ∷ [])) cs ≡ answersTo bytes (begun (line ++ c ∷ []) (linesOf cs)) →
-        writtenNext (holds bytes line) c ++ whole (heldNext (holds bytes line) c) cs ≡ answersTo bytes (begun line (if b then [] ∷ linesOf cs else before c (linesOf cs)))
-    go true e ends on = rw (eqb-true c newline e, ended-held bytes line, ended-written bytes line, ends, begun-none (linesOf cs), append-nil line)
-    go false e ends on = rw (more-held bytes line c e, more-written bytes line c e, on, begun-more line c (linesOf cs))
+whole-answers bytes line (c ∷ cs) =
+    whole-next (holds bytes line) c cs
+    ∙ split (eqb c newline)
+    (λ e.
+    let on = whole-answers (tablesAfter bytes (lineOf line)) [] cs in
+    rw (e, eqb-true c newline e, ended-held bytes line, ended-written bytes line, on, begun-none (linesOf cs), append-nil line))
+    (λ e. rw (e, more-held bytes line c e, more-written bytes line c e, whole-answers bytes (line ++ c ∷ []) cs, begun-more line c (linesOf cs)))
 
 -- chunks
 

@@ -8,29 +8,18 @@ use lib.Dec.{eqb}
 use lib.ListN.{List·getD-append, getD, length, length-append}
 use lib.Seq.{getD-append-add}
 use borrow.Author.Tests.{eqb-true, le-ltb, lt-ltb}
-use Rattle.lists.specs.Lists.{filter, first, firstOr, if_then_else_, isEmpty, times}
+use Rattle.lists.specs.Lists.{filter, first, firstOr, isEmpty, times}
 use Rattle.lists.specs.Numbers.{FirstFrom, countUp, listed, onward, roundFrom}
 use Rattle.lists.proofs.Bools.{below?, split}
+use Rattle.lists.proofs.ListLaws.{times-append}
 use Rattle.lists.proofs.NumberLaws.{listed-at, listed-from, listed-length}
 use Rattle.lists.proofs.Rows.{times-at, within}
 
 pub in-countUp : (x k n : ℕ) → 1 ≤ times x (countUp k n) → (k ≤ x) × (x < k + n)
 unfolding times listed
 in-countUp x k zero h = absurd (omega arith)
-in-countUp x k (suc n) h = go (eqb k x) refl h (in-countUp x (suc k) n)
-  where
-    go : (b : Bool) → eqb k x ≡ b → 1 ≤ (if b then suc (times x (countUp (suc k) n)) else times x (countUp (suc k) n)) → (1 ≤ times x (countUp (suc k) n) → (suc k ≤ x) × (x < suc k + n)) → (k ≤ x) × (x < k + suc n)
-    go true e a ih = let d : k ≡ x = eqb-true k x e in omega arith
-    go false e a ih = let d : (suc k ≤ x) × (x < suc k + n) = ih a in omega arith
-
-pub times-append : (x : ℕ) (xs ys : List ℕ) → times x (xs ++ ys) ≡ times x xs + times x ys
-unfolding times
-times-append x [] ys = omega arith
-times-append x (y ∷ xs) ys = go (eqb y x) (times-append x xs ys)
-  where
-    go : (b : Bool) → times x (xs ++ ys) ≡ times x xs + times x ys → (if b then suc (times x (xs ++ ys)) else times x (xs ++ ys)) ≡ (if b then suc (times x xs) else times x xs) + times x ys
-    go true ih = omega arith
-    go false ih = ih
+in-countUp x k (suc n) h =
+    split (eqb k x) (λ e. let d = eqb-true k x e in omega arith) (λ e. let d = in-countUp x (suc k) n (rw e at h) in omega arith)
 
 pub in-round : (x size k : ℕ) → k < size → 1 ≤ times x (roundFrom size k) → x < size
 unfolding roundFrom
@@ -50,10 +39,7 @@ filter-append f (x ∷ xs) ys = split (f x) (λ e. rw (e, filter-append f xs ys)
 -- the numbers from k on are some of them, and those from there on
 pub countUp-append : (k m n j l : ℕ) → j ≡ k + m → l ≡ m + n → countUp k l ≡ countUp k m ++ countUp j n
 unfolding listed
-countUp-append k zero n j l hj hl =
-    let a : j ≡ k = omega arith in
-    let b : l ≡ n = omega arith in
-    rw (a, b) refl
+countUp-append k zero n j l hj hl = let a : j ≡ k = omega arith in let b : l ≡ n = omega arith in rw (a, b)
 countUp-append k (suc m) n j l hj hl =
     let a : l ≡ suc (m + n) = omega arith in
     rw a (ap (λ (z : List ℕ). k ∷ z) (countUp-append (suc k) m n j (m + n) (omega arith) refl))
@@ -96,18 +82,12 @@ pub record FirstAt (f : ℕ → Bool) (xs : List ℕ) (x i : ℕ) : Type 0 where
 pub searched : (f : ℕ → Bool) (xs : List ℕ) → isEmpty (filter f xs) ≡ false → (i : ℕ) × FirstAt f xs (first (filter f xs)) i
 unfolding filter isEmpty firstOr
 searched f [] h = absurd (true≢false h)
-searched f (x ∷ xs) h = go (f x) refl h (searched f xs)
-  where
-    go : (b : Bool) → f x ≡ b → isEmpty (if b then x ∷ filter f xs else filter f xs) ≡ false → (isEmpty (filter f xs) ≡ false → (i : ℕ) × FirstAt f xs (first (filter f xs)) i) → (i : ℕ) × FirstAt f (x ∷ xs) (first (if b then x ∷ filter f xs else filter f xs)) i
-    go true e k ih = (0, record { inside = omega arith; here = refl; passes = e; before = λ j l. absurd (omega arith) })
-    go false e k ih = on (ih k)
-      where
-        before′ : (i j : ℕ) → ((j : ℕ) → j < i → f (getD xs j 0) ≡ false) → j < suc i → f (getD (x ∷ xs) j 0) ≡ false
-        before′ i zero b l = e
-        before′ i (suc j) b l = b j (omega arith)
-
-        on : (i : ℕ) × FirstAt f xs (first (filter f xs)) i → (i : ℕ) × FirstAt f (x ∷ xs) (first (filter f xs)) i
-        on (i, r) = (suc i, record { inside = let k = r .inside in omega arith; here = r .here; passes = r .passes; before = λ j l. before′ i j (r .before) l })
+searched f (x ∷ xs) h =
+    split (f x) (λ e. rw e (0, record { inside = omega arith; here = refl; passes = e; before = λ j l. absurd (omega arith) }))
+    (λ e.
+    let w = searched f xs (rw e at h) in
+    let r : FirstAt f xs (first (filter f xs)) (w .0) = w .1 in
+    rw e (suc (w .0), record { inside = omega arith; here = r .here; passes = r .passes; before = λ j. elim j [ zero ↦ λ l. e | suc i ↦ λ l. r .before i (omega arith) ] }))
 
 pub round-length : (size k : ℕ) → k < size → length (roundFrom size k) ≡ size
 unfolding roundFrom
@@ -125,33 +105,27 @@ round-at size k i h l =
     (ap (λ (m : ℕ). getD (countUp k (size - k) ++ countUp 0 k) m 0) e ∙ getD-append-add (countUp k (size - k)) (countUp 0 k) (k + i - size) 0 ∙ listed-at (λ i. i) k (k + i - size) 0 (omega arith)))
 
 pub round-found : (f : ℕ → Bool) (size k : ℕ) → k < size → isEmpty (filter f (roundFrom size k)) ≡ false → FirstFrom f size k (first (filter f (roundFrom size k)))
-round-found f size k h e = go (searched f (roundFrom size k) e)
-  where
-    go : (i : ℕ) × FirstAt f (roundFrom size k) (first (filter f (roundFrom size k))) i → FirstFrom f size k (first (filter f (roundFrom size k)))
-    go (i, r) =
-        let n : length (roundFrom size k) ≡ size = round-length size k h in
-        let l : i < length (roundFrom size k) = r .inside in
-        let il : i < size = omega arith in
-        record {
-          below = in-round (first (filter f (roundFrom size k))) size k h (subst (λ (x : ℕ). 1 ≤ times x (roundFrom size k)) (r .here) (times-at (roundFrom size k) i l));
-          passes = r .passes;
-          places = i;
-          within = il;
-          there = sym (round-at size k i h il) ∙ r .here;
-          passedOver = λ j m. subst (λ (x : ℕ). f x ≡ false) (round-at size k j h (omega arith)) (r .before j m);
-        }
+round-found f size k h e =
+    let w = searched f (roundFrom size k) e in
+    let r : FirstAt f (roundFrom size k) (first (filter f (roundFrom size k))) (w .0) = w .1 in
+    let n : length (roundFrom size k) ≡ size = round-length size k h in
+    let il : w .0 < size = omega arith in
+    record {
+      below = in-round (first (filter f (roundFrom size k))) size k h (rw (r .here) at (times-at (roundFrom size k) (w .0) (r .inside)));
+      passes = r .passes;
+      places = w .0;
+      within = il;
+      there = sym (round-at size k (w .0) h il) ∙ r .here;
+      passedOver = λ j m. rw (round-at size k j h (omega arith)) at (r .before j m);
+    }
 
 -- Nothing is found exactly when nothing below the size passes
 
 none-passes : (f : ℕ → Bool) (xs : List ℕ) → isEmpty (filter f xs) ≡ true → (i : ℕ) → i < length xs → f (getD xs i 0) ≡ false
 unfolding filter isEmpty
 none-passes f [] h i k = absurd (omega arith)
-none-passes f (x ∷ xs) h i k = go (f x) refl h (none-passes f xs) i k
-  where
-    go : (b : Bool) → f x ≡ b → isEmpty (if b then x ∷ filter f xs else filter f xs) ≡ true → (isEmpty (filter f xs) ≡ true → (i : ℕ) → i < length xs → f (getD xs i 0) ≡ false) → (i : ℕ) → i < length (x ∷ xs) → f (getD (x ∷ xs) i 0) ≡ false
-    go true e h ih i k = absurd (true≢false (sym h))
-    go false e h ih zero k = e
-    go false e h ih (suc i) k = ih h i (omega arith)
+none-passes f (x ∷ xs) h zero k = split (f x) (λ e. let z = rw e at h in absurd (true≢false (sym z))) (λ e. e)
+none-passes f (x ∷ xs) h (suc i) k = split (f x) (λ e. let z = rw e at h in absurd (true≢false (sym z))) (λ e. none-passes f xs (rw e at h) i (omega arith))
 
 module _ (f : ℕ → Bool) (size k : ℕ) (h : k < size) where
   pub none-found : isEmpty (filter f (roundFrom size k)) ≡ true → (x : ℕ) → x < size → f x ≡ false

@@ -3,15 +3,16 @@ use Prim.Native.Nat.{ℕ, zero, suc, _+_, _≤_, _<_, _*_}
 use native.Mathlib.Nat.{suc-mul, mul-zero, mul-one, mul-add}
 use native.Mathlib.Numerals.{add-one}
 use native.Mathlib.Omega.{arith}
-use mathlib.Core.Bool.{Bool, true, false}
+use mathlib.Core.Bool.{Bool}
 use mathlib.Core.List.{List, [], _∷_}
 use mathlib.Core.Path.{_≡_, refl, sym, ap, _∙_}
 use lib.Dec.{eqb, ltb}
 use lib.ListN.{length, getD}
-use borrow.Author.Tests.{eq-eqb, ne-eqb, lt-ltb, le-ltb, ltb-true, ltb-false, eqb-true}
+use borrow.Author.Tests.{eq-eqb, ne-eqb, lt-ltb, le-ltb, eqb-true}
 use Rattle.lists.specs.Lists.{if_then_else_, filter, times, sum, firstOr, first}
 use Rattle.lists.specs.Numbers.{total}
-use Rattle.lists.proofs.Bools.{either, below?}
+use Rattle.lists.proofs.Bools.{split, either, below?}
+use Rattle.lists.proofs.ListLaws.{times-cons}
 
 -- Sums over the numbers below n
 
@@ -85,34 +86,19 @@ within n (x ∷ xs) h = (h 0 (omega arith), within n xs (λ i k. h (suc i) (omeg
 pub within-member : (n : ℕ) (xs : List ℕ) (p : ℕ) → Within n xs → 1 ≤ times p xs → p < n
 unfolding times
 within-member n [] p h k = absurd (omega arith)
-within-member n (x ∷ xs) p (h, hs) k = go (eqb x p) refl k (within-member n xs p hs)
-  where
-    go : (b : Bool) → eqb x p ≡ b → 1 ≤ (if b then suc (times p xs) else times p xs) → (1 ≤ times p xs → p < n) → p < n
-    go true e k ih = rw (eqb-true x p e) at h
-    go false e k ih = ih k
+within-member n (x ∷ xs) p (h, hs) k =
+    split (eqb x p) (λ e. rw (eqb-true x p e) at h) (λ e. within-member n xs p hs (rw e at k))
 
 -- what stands in a list stands in it at least once
 pub times-at : (xs : List ℕ) (i : ℕ) → i < length xs → 1 ≤ times (getD xs i 0) xs
 unfolding times
 times-at [] i h = absurd (omega arith)
 times-at (x ∷ xs) zero h = rw (eq-eqb x x refl) (omega arith)
-times-at (x ∷ xs) (suc i) h = go (eqb x (getD xs i 0)) (times-at xs i (omega arith))
-  where
-    go : (b : Bool) → 1 ≤ times (getD xs i 0) xs → 1 ≤ (if b then suc (times (getD xs i 0) xs) else times (getD xs i 0) xs)
-    go true k = omega arith
-    go false k = k
+times-at (x ∷ xs) (suc i) h = let k = times-at xs i (omega arith) in split (eqb x (getD xs i 0)) (λ e. rw e (omega arith)) (λ e. rw e k)
 
 times-nil : (p : ℕ) → times p [] ≡ 0
 unfolding times
 times-nil p = refl
-
-times-cons : (p x : ℕ) (xs : List ℕ) → times p (x ∷ xs) ≡ (if eqb x p then 1 else 0) + times p xs
-unfolding times
-times-cons p x xs = go (eqb x p)
-  where
-    go : (b : Bool) → (if b then suc (times p xs) else times p xs) ≡ (if b then 1 else 0) + times p xs
-    go true = omega arith
-    go false = omega arith
 
 module _ (w : ℕ → ℕ) (n : ℕ) where
   -- what each number weighs, as often as it stands
@@ -132,25 +118,12 @@ unfolding sum
 sum-ones [] = refl
 sum-ones (x ∷ xs) = let e = sum-ones xs in omega arith
 
--- as many entries as pass a test, and their sum
+-- what passes a test
 
-filter-length : (f : ℕ → Bool) (xs : List ℕ) → length (filter f xs) ≡ sum (λ x. if f x then 1 else 0) xs
+filter-weighs : (w : ℕ → ℕ) (f : ℕ → Bool) (xs : List ℕ) → sum w (filter f xs) ≡ sum (λ x. if f x then w x else 0) xs
 unfolding filter sum
-filter-length f [] = refl
-filter-length f (x ∷ xs) = go (filter-length f xs) (f x)
-  where
-    go : length (filter f xs) ≡ sum (λ x. if f x then 1 else 0) xs → (b : Bool) → length (if b then x ∷ filter f xs else filter f xs) ≡ (if b then 1 else 0) + sum (λ x. if f x then 1 else 0) xs
-    go e true = omega arith
-    go e false = omega arith
-
-filter-sum : (f : ℕ → Bool) (xs : List ℕ) → sum (λ x. x) (filter f xs) ≡ sum (λ x. if f x then x else 0) xs
-unfolding filter sum
-filter-sum f [] = refl
-filter-sum f (x ∷ xs) = go (filter-sum f xs) (f x)
-  where
-    go : sum (λ x. x) (filter f xs) ≡ sum (λ x. if f x then x else 0) xs → (b : Bool) → sum (λ x. x) (if b then x ∷ filter f xs else filter f xs) ≡ (if b then x else 0) + sum (λ x. if f x then x else 0) xs
-    go e true = omega arith
-    go e false = omega arith
+filter-weighs w f [] = refl
+filter-weighs w f (x ∷ xs) = let ih = filter-weighs w f xs in split (f x) (λ e. rw e (omega arith)) (λ e. rw e (omega arith))
 
 one-first : (xs : List ℕ) → length xs ≡ 1 → first xs ≡ sum (λ x. x) xs
 unfolding firstOr sum
@@ -171,17 +144,15 @@ module _ {n : ℕ} {xs : List ℕ} (r : Row n xs) where
   row-sum w = sym (weighed w n xs (r .inside)) ∙ total-ext n (λ p. w p * times p xs) w (λ p k. ap (λ (m : ℕ). w p * m) (r .once p k) ∙ mul-one (w p))
 
   pub row-many : (f : ℕ → Bool) → length (filter f xs) ≡ total n (λ p. if f p then 1 else 0)
-  row-many f = filter-length f xs ∙ row-sum (λ p. if f p then 1 else 0)
+  row-many f = sym (sum-ones (filter f xs)) ∙ filter-weighs (λ p. 1) f xs ∙ row-sum (λ p. if f p then 1 else 0)
 
   pub row-first : (f : ℕ → Bool) → length (filter f xs) ≡ 1 → first (filter f xs) ≡ total n (λ p. if f p then p else 0)
-  row-first f one = one-first (filter f xs) one ∙ filter-sum f xs ∙ row-sum (λ p. if f p then p else 0)
+  row-first f one = one-first (filter f xs) one ∙ filter-weighs (λ p. p) f xs ∙ row-sum (λ p. if f p then p else 0)
 
   pub row-times : (p : ℕ) → times p xs ≡ (if ltb p n then 1 else 0)
-  row-times p = below? p n (λ h. rw (lt-ltb p n h) (r .once p h)) (λ h. rw (le-ltb p n h) (none (ltb 0 (times p xs)) refl h))
-    where
-      none : (b : Bool) → ltb 0 (times p xs) ≡ b → n ≤ p → times p xs ≡ 0
-      none true e h = let k : p < n = within-member n xs p (r .inside) (ltb-true 0 (times p xs) e) in absurd (omega arith)
-      none false e h = let k : times p xs ≤ 0 = ltb-false 0 (times p xs) e in omega arith
+  row-times p =
+      below? p n (λ h. rw (lt-ltb p n h) (r .once p h))
+      (λ h. rw (le-ltb p n h) (below? 0 (times p xs) (λ k. let l = within-member n xs p (r .inside) k in absurd (omega arith)) (λ k. omega arith)))
 
 -- n entries below n, each number there at least once: each is there exactly once
 pub row-all : (n : ℕ) (xs : List ℕ) → length xs ≡ n → Within n xs → ((p : ℕ) → p < n → 1 ≤ times p xs) → Row n xs

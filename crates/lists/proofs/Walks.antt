@@ -2,15 +2,16 @@
 use Prim.Native.Nat.{_+_, _<_, _≤_, ℕ}
 use native.Mathlib.Numerals.{add-one}
 use native.Mathlib.Omega.{arith}
-use mathlib.Core.Bool.{Bool, _||_, false, true}
-use mathlib.Core.List.{List, [], _++_, _∷_}
+use mathlib.Core.Bool.{Bool, _||_, false, true, or-false, or-true}
+use mathlib.Core.List.{List, [], _∷_}
 use mathlib.Core.Path.{_∙_, _≡_, refl, sym}
 use lib.Dec.{eqb, ltb}
 use lib.ListN.{drop, drop-of-length-le, getD, length, take}
 use lib.Seq.{drop-cons, take-suc}
 use borrow.Author.Tests.{eq-eqb, le-leb, lt-leb, lt-ltb, ne-eqb}
 use Rattle.lists.specs.Lists.{falls, filter, times}
-use Rattle.lists.proofs.Bools.{either, split}
+use Rattle.lists.proofs.Bools.{either}
+use Rattle.lists.proofs.ListLaws.{times-append}
 
 module _ (f : ℕ → Bool) (xs : List ℕ) (i : ℕ) (hi : i < length xs) where
   pub filter-in : f (getD xs i 0) ≡ true → filter f (drop i xs) ≡ getD xs i 0 ∷ filter f (drop (i + 1) xs)
@@ -39,11 +40,6 @@ module _ (rank : ℕ → ℕ) (n : ℕ) where
   falls-stop x xs h = rw (lt-leb (rank x) n h)
 
 -- a number that stands among the first i + 1
-times-append : (p : ℕ) (xs ys : List ℕ) → times p (xs ++ ys) ≡ times p xs + times p ys
-unfolding times
-times-append p [] ys = omega arith
-times-append p (x ∷ xs) ys = let e = times-append p xs ys in split (eqb x p) (λ q. rw q (omega arith)) (λ q. rw q e)
-
 pub among-next : (xs : List ℕ) (i p : ℕ) → i < length xs → (ltb 0 (times p (take i xs)) || eqb p (getD xs i 0)) ≡ ltb 0 (times p (take (i + 1) xs))
 unfolding times
 among-next xs i p h =
@@ -51,16 +47,8 @@ among-next xs i p h =
     let m : ℕ = times p (take i xs) in
     let e : times p (take (i + 1) xs) ≡ m + times p (x ∷ []) = rw (add-one, take-suc xs i 0 h) (times-append p (take i xs) (x ∷ [])) in
     either p x
-    (λ q. let k : times p (x ∷ []) ≡ 1 = rw (eq-eqb x p (sym q)) in rw (eq-eqb p x q) (yes-or (ltb 0 m) ∙ sym (lt-ltb 0 (times p (take (i + 1) xs)) (omega arith))))
-    (λ q. let k : times p (x ∷ []) ≡ 0 = rw (ne-eqb x p (λ z. q (sym z))) in let s : times p (take (i + 1) xs) ≡ m = omega arith in rw (ne-eqb p x q, s) (or-no (ltb 0 m)))
-  where
-    yes-or : (b : Bool) → (b || true) ≡ true
-    yes-or true = refl
-    yes-or false = refl
-
-    or-no : (b : Bool) → (b || false) ≡ b
-    or-no true = refl
-    or-no false = refl
+    (λ q. let k : times p (x ∷ []) ≡ 1 = rw (eq-eqb x p (sym q)) in rw (eq-eqb p x q) (or-true (ltb 0 m) ∙ sym (lt-ltb 0 (times p (take (i + 1) xs)) (omega arith))))
+    (λ q. let k : times p (x ∷ []) ≡ 0 = rw (ne-eqb x p (λ z. q (sym z))) in let s : times p (take (i + 1) xs) ≡ m = omega arith in rw (ne-eqb p x q, s) (or-false (ltb 0 m)))
 
 pub among-none : (p : ℕ) → ltb 0 (times p []) ≡ false
 unfolding times

@@ -5,9 +5,10 @@ use mathlib.Core.List.{List, [], _∷_}
 use mathlib.Core.Option.{Option, none, some}
 use mathlib.Core.Path.{_≡_, refl, sym, ap, subst, _∙_}
 use lib.Dec.{eqb, ltb}
-use lib.IntN.{ℤ, sucℤ, natAbs}
-use borrow.Author.Tests.{eqb-true, eqb-false}
-use Rattle.lists.specs.Lists.{if_then_else_, without}
+use lib.IntN.{ℤ, natAbs}
+use borrow.Author.Tests.{eq-eqb, ne-eqb}
+use Rattle.lists.specs.Lists.{if_then_else_}
+use Rattle.lists.proofs.Bools.{either}
 use Rattle.tables.specs.declared.State.the-variants.{Waiting}
 use Rattle.tables.specs.declared.Tables.{Tables}
 use Rattle.tables.specs.States.{awaits, isThe, waitsOn}
@@ -20,33 +21,37 @@ use Rattle.rules.specs.Answers.{_when_, refused}
 use Rattle.rules.specs.Calls.{Call, Wait, Signal, MakeSemaphore, Delete, Reset, MakeProcess, Resume, Suspend, Kill, Yield, Count, deed, finish, step}
 use Rattle.rules.specs.Enter.{Form, formOf, callOf, spare, called, numbered}
 use Rattle.rules.proofs.Resched.{Settled}
-use Rattle.rules.proofs.Effects.{Shows, Effect, settled-shows}
+use Rattle.rules.proofs.Effects.{Effect, settled-seen}
 use Rattle.rules.proofs.Refusals.{unless-cases, step-cases}
 use Rattle.rules.proofs.Changes.{changeOf, Loses, Becomes, Allowed, call-changes}
+use Rattle.rules.specs.Seen.{Seen, seen}
 use Rattle.promises.specs.Record.{Request, made, Account, stillBlocked, among, opened, killed, change, Event, Sets, Ends, Signals, Waits, Nothing, accepted, answered, entered, noted}
 use Rattle.promises.proofs.Accounts.{Agrees, agrees-waited, agrees-signalled, agrees-killed, agrees-spared}
 
+-- the account is the one of a semaphore that is seen so
+abbrev AgreesAs : Option Account → Seen → Type 0
+AgreesAs old x = Agrees (x .used) (x .count) (x .waiters) old
+
 -- the account is the one of semaphore r in t
 abbrev pub Agree : Tables → ℕ → Option Account → Type 0
-Agree t r old = Agrees (isUsed t r) (countOf t r) (queue t r) old
+Agree t r old = AgreesAs old (seen t r)
 
-agree-shows : {t : Tables} {r : ℕ} {u : Bool} {c : ℤ} {q : List ℕ} (old : Option Account) → Shows t r u c q → Agrees u c q old → Agree t r old
-agree-shows old w h = rw (w .used, w .count, w .waiters) h
+agree-seen : {x y : Seen} (old : Option Account) → x ≡ y → AgreesAs old y → AgreesAs old x
+agree-seen old w h = subst (AgreesAs old) (sym w) h
 
--- Calls that no semaphore shows
+-- Calls after which every semaphore is seen as before
 
 settled-agree : {t t′ : Tables} → Settled t t′ → (r : ℕ) (old : Option Account) → Agree t r old → Agree t′ r old
-settled-agree g r old h = agree-shows old (settled-shows g r) h
+settled-agree g r old h = agree-seen old (settled-seen g r) h
 
 -- Calls that change how one semaphore is seen
 
 effect-agree : {t t′ : Tables} {s : ℕ} {u : Bool} {c : ℤ} {q : List ℕ} → Effect t t′ s u c q → (p : ℕ) (x : Event) → ((old : Option Account) → Agree t s old → Agrees u c q (noted p x old))
     → (r : ℕ) (old : Option Account) → Agree t r old → Agree t′ r (noted p (if eqb s r then x else Nothing) old)
-effect-agree {t} {t′} {s} {u} {c} {q} E p x h r old a = go (eqb s r) refl
-  where
-    go : (b : Bool) → eqb s r ≡ b → Agree t′ r (noted p (if b then x else Nothing) old)
-    go true e = subst (λ (n : ℕ). Agree t′ n (noted p x old)) (eqb-true s r e) (agree-shows (noted p x old) (E .here) (h old (subst (λ (n : ℕ). Agree t n old) (sym (eqb-true s r e)) a)))
-    go false e = agree-shows old (E .elsewhere r (λ d. eqb-false s r e (sym d))) a
+effect-agree {s = s} E p x h r old a =
+    either s r
+    (λ e. rw (eq-eqb s r e, ← e) (agree-seen (noted p x old) (E .here) (h old (rw (← e) at a))))
+    (λ d. rw (ne-eqb s r d) (agree-seen old (E .elsewhere r (λ e. d (sym e))) a))
 
 agrees-opened : (c : ℤ) → Agrees true c [] (some (opened c))
 unfolding stillBlocked
@@ -54,35 +59,28 @@ agrees-opened c = (refl, refl)
 
 module _ {t : Tables} (S : Sound t) where
   in-use : (s : ℕ) → isUsed t s ≡ true → (old : Option Account) → Agree t s old → Agrees true (countOf t s) (queue t s) old
-  in-use s u old k = subst (λ (b : Bool). Agrees b (countOf t s) (queue t s) old) u k
+  in-use s u old k = rw u at k
 
   -- who waits elsewhere, or nowhere, isn't in the queue
   absent : (p r : ℕ) → waitsOn r (stateOf t p) ≡ false → among p (queue t r) ≡ false
   absent p r h = ap (ltb 0) (in-line-live (S .laid) p (waitsOn r) refl ∙ ap (λ (b : Bool). if b then 1 else 0) h)
 
   kill-other : {t′ : Tables} (p : ℕ) → ((r : ℕ) → waitsOn r (stateOf t p) ≡ false) → Settled t t′ → (r : ℕ) (old : Option Account) → Agree t r old → Agree t′ r (change (killed p) old)
-  kill-other p hw g r old a = agree-shows (change (killed p) old) (settled-shows g r) (agrees-spared (isUsed t r) (countOf t r) (queue t r) p old (absent p r (hw r)) a)
+  kill-other p hw g r old a =
+      agree-seen (change (killed p) old) (settled-seen g r) (agrees-spared (isUsed t r) (countOf t r) (queue t r) p old (absent p r (hw r)) a)
 
   -- a kill, by the semaphore that the process waits on
   kill-agree : (t′ : Tables) (p : ℕ) (w : Option ℕ) → awaits (stateOf t p) ≡ w → Loses t p w t′ → (r : ℕ) (old : Option Account) → Agree t r old → Agree t′ r (change (killed p) old)
   kill-agree t′ p none e g r old a = kill-other p (λ r. ap (isThe r) e) g r old a
-  kill-agree t′ p (some s) e E r old a = go (eqb s r) refl
-    where
-      here : stateOf t p ≡ Waiting s
-      here = awaits-some (stateOf t p) s e
-
-      among-them : among p (queue t s) ≡ true
-      among-them = ap (ltb 0) (sentences S .queuedOnce p s here)
-
-      go : (b : Bool) → eqb s r ≡ b → Agree t′ r (change (killed p) old)
-      go true d =
-          subst (λ (n : ℕ). Agree t′ n (change (killed p) old)) (eqb-true s r d)
-          (agree-shows (change (killed p) old) (E .here)
-          (subst (λ (b : Bool). Agrees b (sucℤ (countOf t s)) (without p (queue t s)) (change (killed p) old)) (waiter-used S p s here)
-          (agrees-killed (isUsed t s) (countOf t s) (queue t s) p old among-them (subst (λ (n : ℕ). Agree t n old) (sym (eqb-true s r d)) a))))
-      go false d =
-          agree-shows (change (killed p) old) (E .elsewhere r (λ c. eqb-false s r d (sym c)))
-          (agrees-spared (isUsed t r) (countOf t r) (queue t r) p old (absent p r (ap (isThe r) e ∙ d)) a)
+  kill-agree t′ p (some s) e E r old a =
+      let here : stateOf t p ≡ Waiting s = awaits-some (stateOf t p) s e in
+      let among-them : among p (queue t s) ≡ true = ap (ltb 0) (sentences S .queuedOnce p s here) in
+      either s r
+      (λ d. rw (← d)
+      (agree-seen (change (killed p) old) (E .here)
+      (rw (waiter-used S p s here) at (agrees-killed (isUsed t s) (countOf t s) (queue t s) p old among-them (rw (← d) at a)))))
+      (λ d. agree-seen (change (killed p) old) (E .elsewhere r (λ c. d (sym c)))
+      (agrees-spared (isUsed t r) (countOf t r) (queue t r) p old (absent p r (ap (isThe r) e ∙ ne-eqb s r d)) a))
 
   -- by call, as the record is: this ties what the rules change to what the record says
   call-agrees : (c : Call) (t′ : Tables) → Allowed t (changeOf t c) × Becomes t (changeOf t c) t′ → (r : ℕ) (old : Option Account) → Agree t r old → Agree t′ r (noted (currentOf t) (accepted r c (deed t c .value)) old)
@@ -108,14 +106,11 @@ module _ {t : Tables} (S : Sound t) where
   unfolding numbered
   numbered-agree q r old h = go (formOf (q .number))
     where
-      a : ℤ
-      a = q .a
-
-      b : ℤ
-      b = q .b
-
-      go : (f : Option Form) → Agree (called t f a b .tables) r (noted (currentOf t) (entered r f (record { caller = currentOf t; request = q; answer = called t f a b .answer })) old)
+      go : (f : Option Form)
+          → Agree (called t f (q .a) (q .b) .tables) r (noted (currentOf t) (entered r f (record { caller = currentOf t; request = q; answer = called t f (q .a) (q .b) .answer })) old)
       go none = h
       go (some f) =
-          unless-cases (λ m. refused m t) (λ o. Agree (o .tables) r (noted (currentOf t) (answered r (callOf f a b) (o .answer)) old)) (λ m. h) ((14 when spare f a b) ∷ []) (step t (callOf f a b))
-          (λ k. step-agree (callOf f a b) r old h)
+          unless-cases (λ m. refused m t)
+          (λ o. Agree (o .tables) r (noted (currentOf t) (answered r (callOf f (q .a) (q .b)) (o .answer)) old)) (λ m. h)
+          ((14 when spare f (q .a) (q .b)) ∷ []) (step t (callOf f (q .a) (q .b)))
+          (λ k. step-agree (callOf f (q .a) (q .b)) r old h)

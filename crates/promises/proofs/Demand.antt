@@ -114,11 +114,7 @@ module _ {t : Tables} (S : Sound t) where
   nowhere p h x = not-there p x (λ d. Option·none-ne-some x (sym (ap placeOf (is-free (stateOf t p) h)) ∙ d))
 
   different : (s p : ℕ) → times p (queue t s) ≤ 1
-  different s p = rw (there-times p (queueOf s)) (go (waitsOn s (stateOf t p)))
-    where
-      go : (b : Bool) → (if b then 1 else 0) ≤ 1
-      go true = omega arith
-      go false = omega arith
+  different s p = rw (there-times p (queueOf s)) (split (waitsOn s (stateOf t p)) (λ b. rw b (omega arith)) (λ b. rw b (omega arith)))
 
 demanded : {t : Tables} {es : List Entry} → Invariant t es → Demand3 t es
 demanded {t} {es} i =

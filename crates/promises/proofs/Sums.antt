@@ -1,12 +1,11 @@
 -- The count of an account is the sum that demand 3 names. Assumes nothing.
 use Prim.Native.Nat.{ℕ}
-use mathlib.Core.Bool.{Bool, true, false}
 use mathlib.Core.List.{List, [], _∷_}
 use mathlib.Core.Option.{Option, none, some}
 use mathlib.Core.Path.{_≡_, sym, ap, _∙_}
 use lib.IntN.{ℤ, pos, sucℤ, predℤ, negℤ, _+ℤ_, _-ℤ_, +ℤ-idr, +ℤ-sucℤ, +ℤ-predℤ, sucℤ-+ℤ, predℤ-+ℤ, negℤ-sucℤ}
-use Rattle.lists.specs.Lists.{if_then_else_}
-use Rattle.promises.specs.Record.{Entry, Account, stillBlocked, among, strike, waited, signalled, killed, change, Event, Sets, Ends, Signals, Waits, Kills, Nothing, event, noted, account}
+use Rattle.lists.proofs.Bools.{split}
+use Rattle.promises.specs.Record.{Entry, Account, stillBlocked, among, waited, signalled, killed, change, Event, Sets, Ends, Signals, Waits, Kills, Nothing, event, noted, account}
 use Rattle.promises.specs.Sum.{Sum, amount, oneSignal, oneWait, oneKill, added, sumOf}
 
 -- One more of each
@@ -46,11 +45,7 @@ unfolding killed
 sums-killed p none none h = tt
 sums-killed p none (some m) h = absurd h
 sums-killed p (some n) none h = absurd h
-sums-killed p (some n) (some m) h = go (among p (stillBlocked (n .waits)))
-  where
-    go : (b : Bool) → Sums (some (if b then record { count = sucℤ (n .count); waits = strike p (n .waits) } else n)) (if b then some (oneKill m) else some m)
-    go true = ap sucℤ h ∙ sym (amount-kill m)
-    go false = h
+sums-killed p (some n) (some m) h = split (among p (stillBlocked (n .waits))) (λ b. rw b (ap sucℤ h ∙ sym (amount-kill m))) (λ b. rw b h)
 
 sums-noted : (p : ℕ) (x : Event) (old : Option Account) (sum : Option Sum) → Sums old sum → Sums (noted p x old) (added x old sum)
 unfolding waited signalled

@@ -11,7 +11,7 @@ use lib.ListN.{drop}
 use lib.Signed.{ltZ, leZ}
 use borrow.Author.Tests.{ltb-false, eqb-false, leb-false}
 use Rattle.lists.specs.Lists.{if_then_else_, without, first}
-use Rattle.lists.proofs.Bools.{not-false}
+use Rattle.lists.proofs.Bools.{not-false, split}
 use Rattle.tables.specs.declared.State.{State}
 use Rattle.tables.specs.declared.State.the-variants.{Waiting}
 use Rattle.tables.specs.declared.Semaphore.{Semaphore}
@@ -23,11 +23,11 @@ use Rattle.tables.specs.Sound.{Counted, Sound}
 use Rattle.tables.proofs.States.{is-suspended, awaits-some, runs-no-waiter}
 use Rattle.tables.proofs.Sentences.{waiter-used}
 use Rattle.rules.specs.Calls.{Accepted, Call, Wait, Signal, MakeSemaphore, Delete, Reset, MakeProcess, Resume, Suspend, Kill, Yield, Count, below0, outside, largest, freeSemaphores, stop, uncounted, deed, finish}
-use Rattle.rules.proofs.Resched.{Settled}
+use Rattle.rules.proofs.Resched.{Settled, settled-still}
 use Rattle.rules.proofs.Effects.{Effect}
 use Rattle.rules.proofs.WaitSignal.{wait-effect, signal-effect}
 use Rattle.rules.proofs.Release.{release-effect}
-use Rattle.rules.proofs.Slots.{suspend-settled, free-settled, kill-waiter, resume-settled, yield-settled, stay-settled}
+use Rattle.rules.proofs.Slots.{suspend-settled, free-settled, kill-waiter, resume-settled, yield-settled}
 use Rattle.rules.proofs.Found.{make-process-settled, make-semaphore-effect}
 
 pub data Change : Type 0 where
@@ -80,12 +80,9 @@ below-limit limit (pos n) h = leb-false limit n h
 below-limit limit (negsuc n) h = absurd (true≢false h)
 
 priority-in-range : (a : ℤ) → (ltZ a (pos 1) || ltZ (pos priorityLimit) a) ≡ false → (1 ≤ natAbs a) × (natAbs a ≤ priorityLimit)
-priority-in-range (pos n) h = go (ltb n 1) (ltb priorityLimit n) refl refl h
-  where
-    go : (b c : Bool) → ltb n 1 ≡ b → ltb priorityLimit n ≡ c → (b || c) ≡ false → (1 ≤ n) × (n ≤ priorityLimit)
-    go true c d e k = absurd (true≢false k)
-    go false true d e k = absurd (true≢false k)
-    go false false d e k = (ltb-false n 1 d, ltb-false priorityLimit n e)
+priority-in-range (pos n) h =
+    split (ltb n 1) (λ d. absurd (true≢false (rw d at h)))
+    (λ d. split (ltb priorityLimit n) (λ e. absurd (true≢false (rw (d, e) at h))) (λ e. (ltb-false n 1 d, ltb-false priorityLimit n e)))
 priority-in-range (negsuc n) h = absurd (true≢false h)
 
 pub not-null : (p : ℕ) → eqb p 0 ≡ false → 0 ≢ p
@@ -122,4 +119,4 @@ module _ {t : Tables} (S : Sound t) where
       (tt, suspend-settled S p (below-limit processLimit a h) (not-null p n) k (λ r. runs-no-waiter st r (not-false (isReady st || isCurrent st) m)) (pos (priorityOf t p)))
   call-changes (Kill a) (h, (n, z)) = (tt, kill-loses (natAbs a) (awaits (stateOf t (natAbs a))) refl (below-limit processLimit a h) (not-null (natAbs a) n))
   call-changes Yield z = (tt, yield-settled S (pos 1))
-  call-changes (Count a) z = (tt, stay-settled S)
+  call-changes (Count a) z = (tt, settled-still (S .laid) (S .running))

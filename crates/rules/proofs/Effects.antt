@@ -1,52 +1,45 @@
 -- What a call does to the semaphores as they are seen: used, count, queue. Assumes nothing.
 use Prim.Native.Nat.{ℕ, _<_}
-use mathlib.Core.Bool.{Bool, true, false}
+use mathlib.Core.Bool.{Bool, false}
 use mathlib.Core.List.{List}
 use mathlib.Core.Logic.{_≢_}
-use mathlib.Core.Path.{_≡_, refl, sym, ap, _∙_}
-use lib.Dec.{eqb}
+use mathlib.Core.Path.{_≡_, refl, sym, ap, _∙_, subst}
 use lib.IntN.{ℤ, pos}
-use lib.ListN.{length, getD, set, length-set}
+use lib.ListN.{length, set, length-set}
 use lib.Seq.{getD-set-same, getD-set-other}
-use borrow.Author.Tests.{eqb-true, eqb-false}
+use Rattle.lists.proofs.Bools.{either}
 use Rattle.tables.specs.declared.State.{State}
 use Rattle.tables.specs.declared.Semaphore.{Semaphore}
 use Rattle.tables.specs.declared.Tables.{Tables}
 use Rattle.tables.specs.Limits.{processLimit, semaphoreLimit}
-use Rattle.tables.specs.Readers.{freeSemaphore, semaphore, isUsed, countOf, line, queue}
+use Rattle.tables.specs.Readers.{freeSemaphore, semaphore, line, queue}
 use Rattle.tables.specs.Setters.{withCursors, withSemaphores, withSemaphore}
 use Rattle.tables.specs.Sound.{Laid, Counted, Running, Sound}
 use Rattle.rules.specs.Calls.{Deed, finish}
 use Rattle.rules.proofs.Resched.{Settled, Prepared, finished}
-
--- how a semaphore is seen
-pub record Shows (t : Tables) (s : ℕ) (u : Bool) (c : ℤ) (q : List ℕ) : Type 0 where
-  pub used : isUsed t s ≡ u
-  pub count : countOf t s ≡ c
-  pub waiters : queue t s ≡ q
+use Rattle.rules.specs.Seen.{Seen, seen}
 
 -- afterwards s is seen so, and every other as before; the rest is sound
 pub record Effect (t t′ : Tables) (s : ℕ) (u : Bool) (c : ℤ) (q : List ℕ) : Type 0 where
   pub laid : Laid t′
   pub running : Running t′
-  pub here : Shows t′ s u c q
-  pub elsewhere : (r : ℕ) → r ≢ s → Shows t′ r (isUsed t r) (countOf t r) (queue t r)
+  pub here : seen t′ s ≡ record { used = u; count = c; waiters = q }
+  pub elsewhere : (r : ℕ) → r ≢ s → seen t′ r ≡ seen t r
+
+-- a semaphore seen so is sound
+abbrev Fitting : Seen → Type 0
+Fitting x = Counted (x .count) (x .waiters) × (x .used ≡ false → x .count ≡ pos 0)
+
+fitting : {t : Tables} → Sound t → (r : ℕ) → Fitting (seen t r)
+fitting S r = (S .queued .counted r, S .queued .unused r)
+
+fitting-sound : {t : Tables} → Laid t → Running t → ((r : ℕ) → Fitting (seen t r)) → Sound t
+fitting-sound l r f = record { laid = l; running = r; queued = record { counted = λ s. f s .0; unused = λ s. f s .1 } }
 
 pub effect-sound : {t t′ : Tables} {s : ℕ} {u : Bool} {c : ℤ} {q : List ℕ} → Sound t → Effect t t′ s u c q → Counted c q → (u ≡ false → c ≡ pos 0) → Sound t′
-effect-sound {t} {t′} {s} {u} {c} {q} S E hc hu =
-    record {
-      laid = E .laid;
-      running = E .running;
-      queued = record { counted = λ r. counted r (eqb r s) refl; unused = λ r. unused r (eqb r s) refl };
-    }
-  where
-    counted : (r : ℕ) (b : Bool) → eqb r s ≡ b → Counted (countOf t′ r) (queue t′ r)
-    counted r true e = rw (eqb-true r s e, E .here .count, E .here .waiters) hc
-    counted r false e = rw (E .elsewhere r (eqb-false r s e) .count, E .elsewhere r (eqb-false r s e) .waiters) (S .queued .counted r)
-
-    unused : (r : ℕ) (b : Bool) → eqb r s ≡ b → isUsed t′ r ≡ false → countOf t′ r ≡ pos 0
-    unused r true e k = ap (countOf t′) (eqb-true r s e) ∙ E .here .count ∙ hu (sym (E .here .used) ∙ ap (isUsed t′) (sym (eqb-true r s e)) ∙ k)
-    unused r false e k = E .elsewhere r (eqb-false r s e) .count ∙ S .queued .unused r (sym (E .elsewhere r (eqb-false r s e) .used) ∙ k)
+effect-sound {s = s} S E hc hu =
+    fitting-sound (E .laid) (E .running)
+    (λ r. either r s (λ e. rw e (subst Fitting (sym (E .here)) (hc, hu))) (λ d. subst Fitting (sym (E .elsewhere r d)) (fitting S r)))
 
 -- A semaphore's entry
 
@@ -72,43 +65,30 @@ pub running-entry : {t : Tables} → Running t → (s : ℕ) (x : Semaphore) →
 unfolding line
 running-entry r s x = record { one = r .one; zero = r .zero; top = r .top }
 
+-- an entry with its queue
+abbrev seenAs : Semaphore → List ℕ → Seen
+seenAs x q = record { used = x .used; count = x .count; waiters = q }
+
 -- A change of an entry, then whatever keeps the entries and leaves s the queue q and the others theirs
 pub effect-entry : {t t′ : Tables} {q : List ℕ} (s : ℕ) (x : Semaphore) → s < length (t .semaphores) → Laid t′ → Running t′ → t′ .semaphores ≡ set (t .semaphores) s x
     → queue t′ s ≡ q → ((r : ℕ) → r ≢ s → queue t′ r ≡ queue t r) → Effect t t′ s (x .used) (x .count) q
-effect-entry {t} {t′} s x hs l r e a b =
+effect-entry {t} {q = q} s x hs l r e a b =
     record {
       laid = l;
       running = r;
-      here = record { used = at (λ y. y .used); count = at (λ y. y .count); waiters = a };
-      elsewhere = λ k h. record { used = off (λ y. y .used) k h; count = off (λ y. y .count) k h; waiters = b k h };
+      here = rw (a, e) (ap (λ (y : Semaphore). seenAs y q) (entry-same t s x hs));
+      elsewhere = λ k h. rw (b k h, e) (ap (λ (y : Semaphore). seenAs y (queue t k)) (entry-other t s x k h));
     }
-  where
-    at : {B : Type 0} (f : Semaphore → B) → f (semaphore t′ s) ≡ f x
-    at f = ap (λ (l : List Semaphore). f (getD l s freeSemaphore)) e ∙ ap f (entry-same t s x hs)
-
-    off : {B : Type 0} (f : Semaphore → B) (k : ℕ) → k ≢ s → f (semaphore t′ k) ≡ f (semaphore t k)
-    off f k h = ap (λ (l : List Semaphore). f (getD l k freeSemaphore)) e ∙ ap f (entry-other t s x k h)
 
 pub effect-done : {t : Tables} {q : List ℕ} (d : Deed) (s : ℕ) (x : Semaphore) → s < length (t .semaphores) → Prepared d → d .tables .semaphores ≡ set (t .semaphores) s x
     → queue (d .tables) s ≡ q → ((r : ℕ) → r ≢ s → queue (d .tables) r ≡ queue t r) → Effect t (finish d .tables) s (x .used) (x .count) q
 effect-done d s x hs P e a b =
     effect-entry s x hs (finished P .laid) (finished P .running) (finished P .semaphores ∙ e) (finished P .queues s ∙ a) (λ r h. finished P .queues r ∙ b r h)
 
--- Calls that no semaphore shows
+-- Calls after which every semaphore is seen as before
 
-pub settled-shows : {t t′ : Tables} → Settled t t′ → (r : ℕ) → Shows t′ r (isUsed t r) (countOf t r) (queue t r)
-settled-shows g r =
-    record {
-      used = ap (λ (l : List Semaphore). getD l r freeSemaphore .used) (g .semaphores);
-      count = ap (λ (l : List Semaphore). getD l r freeSemaphore .count) (g .semaphores);
-      waiters = g .queues r;
-    }
+pub settled-seen : {t t′ : Tables} → Settled t t′ → (r : ℕ) → seen t′ r ≡ seen t r
+settled-seen g r = rw (g .queues r, g .semaphores)
 
 pub settled-sound : {t t′ : Tables} → Sound t → Settled t t′ → Sound t′
-settled-sound {t} {t′} S g = record { laid = g .laid; running = g .running; queued = record { counted = counted; unused = unused } }
-  where
-    counted : (s : ℕ) → Counted (countOf t′ s) (queue t′ s)
-    counted s = rw (settled-shows g s .count, settled-shows g s .waiters) (S .queued .counted s)
-
-    unused : (s : ℕ) → isUsed t′ s ≡ false → countOf t′ s ≡ pos 0
-    unused s h = settled-shows g s .count ∙ S .queued .unused s (sym (settled-shows g s .used) ∙ h)
+settled-sound S g = fitting-sound (g .laid) (g .running) (λ r. subst Fitting (sym (settled-seen g r)) (fitting S r))

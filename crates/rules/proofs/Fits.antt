@@ -4,7 +4,7 @@ use native.Mathlib.Omega.{arith}
 use mathlib.Core.Bool.{Bool, false}
 use mathlib.Core.List.{List}
 use mathlib.Core.Option.{Option, none, some}
-use mathlib.Core.Path.{_≡_, ap, refl}
+use mathlib.Core.Path.{_≡_, ap, refl, subst, sym}
 use lib.IntN.{natAbs, negsuc, pos, predℤ, sucℤ, ℤ}
 use lib.ListN.{length}
 use lib.Signed.{leZ}
@@ -30,10 +30,11 @@ use Rattle.rules.specs.Answers.{valueOf}
 use Rattle.rules.specs.Calls.{Accepted, Call, Wait, Signal, MakeSemaphore, Delete, Reset, MakeProcess, Resume, Suspend, Kill, Yield, Count, below0, largest, freeSemaphores, freeSlots, deed, finish, step}
 use Rattle.rules.specs.Enter.{Form, forms, callOf, numbered}
 use Rattle.rules.proofs.Resched.{Settled}
-use Rattle.rules.proofs.Effects.{Effect, settled-shows}
+use Rattle.rules.proofs.Effects.{Effect, settled-seen}
 use Rattle.rules.proofs.Found.{slot-found, semaphore-found}
 use Rattle.rules.proofs.Refusals.{step-cases, branch, numbered-cases, AllFrom, number-has}
 use Rattle.rules.proofs.Changes.{Change, untouched, lowered, raised, rewritten, loses, changeOf, Loses, Becomes, Allowed, call-changes}
+use Rattle.rules.specs.Seen.{Seen}
 
 small : (n : ℕ) → n < 2147483648 → SFits w32 (pos n)
 small n h = record { sfits = h }
@@ -67,10 +68,13 @@ setsCount (loses p) = pos 0
 
 module _ {t : Tables} (S : Sound t) (F : CountsFit t) where
   by-effect : {t′ : Tables} {s : ℕ} {u : Bool} {c : ℤ} {q : List ℕ} → Effect t t′ s u c q → SFits w32 c → CountsFit t′
-  by-effect {t′} {s} E h = λ r. either r s (λ e. rw (e, E .here .count) h) (λ e. rw (E .elsewhere r e .count) (F r))
+  by-effect {s = s} E h =
+      λ r. either r s
+      (λ e. rw e (subst (λ (x : Seen). SFits w32 (x .count)) (sym (E .here)) h))
+      (λ d. subst (λ (x : Seen). SFits w32 (x .count)) (sym (E .elsewhere r d)) (F r))
 
   by-settled : {t′ : Tables} → Settled t t′ → CountsFit t′
-  by-settled g = λ r. rw (settled-shows g r .count) (F r)
+  by-settled g = λ r. subst (λ (x : Seen). SFits w32 (x .count)) (sym (settled-seen g r)) (F r)
 
   loses-fits : (t′ : Tables) (p : ℕ) (w : Option ℕ) → awaits (stateOf t p) ≡ w → Loses t p w t′ → CountsFit t′
   loses-fits t′ p none e g = by-settled g

@@ -7,9 +7,10 @@ use mathlib.Core.Path.{_≡_, refl, sym, ap, _∙_}
 use lib.Dec.{eqb}
 use lib.ListN.{length}
 use lib.Seq.{getD-set-same, getD-set-other}
-use borrow.Author.Tests.{eq-eqb, eqb-false}
+use borrow.Author.Tests.{eq-eqb, ne-eqb}
 use Rattle.lists.specs.Lists.{filter, without, putBefore, times}
 use Rattle.lists.proofs.ListLaws.{filter-without, filter-putBefore-no, filter-putBefore-yes, putBefore-last, place-is, putBefore-ext}
+use Rattle.lists.proofs.Bools.{either}
 use Rattle.tables.specs.declared.State.{State}
 use Rattle.tables.specs.declared.State.the-variants.{Ready, Waiting}
 use Rattle.tables.specs.declared.Process.{Process}
@@ -31,11 +32,10 @@ module _ (t : Tables) (p : ℕ) (before : ℕ → Bool) (st : State) (test : Sta
   joined-other x h = getD-set-other (t .processes) p x (inState st (process t p)) freeSlot h
 
   test-join : (x : ℕ) → (not (eqb x p) && test (stateOf (joining t p before st) x)) ≡ (test (stateOf t x) && not (eqb x p))
-  test-join x = go (eqb x p) refl
-    where
-      go : (b : Bool) → eqb x p ≡ b → (not b && test (stateOf (joining t p before st) x)) ≡ (test (stateOf t x) && not b)
-      go true e = sym (and-false (test (stateOf t x)))
-      go false e = ap (λ (r : Process). test (r .state)) (joined-other x (eqb-false x p e)) ∙ sym (and-true (test (stateOf t x)))
+  test-join x =
+      either x p
+      (λ e. rw (e, eq-eqb p p refl) (sym (and-false (test (stateOf t p)))))
+      (λ d. rw (ne-eqb x p d) (ap (λ (r : Process). test (r .state)) (joined-other x d) ∙ sym (and-true (test (stateOf t x)))))
 
   rest : filter (λ x. test (stateOf (joining t p before st) x)) (without p (t .order)) ≡ without p (line t test)
   unfolding line
@@ -45,24 +45,20 @@ module _ (t : Tables) (p : ℕ) (before : ℕ → Bool) (st : State) (test : Sta
   pub line-join-other : test st ≡ false → line (joining t p before st) test ≡ without p (line t test)
   unfolding line joining
   line-join-other h =
+      let now : ℕ → Bool = λ x. test (stateOf (joining t p before st) x) in
       ap (filter now) (place-is before p (t .order) once)
       ∙ filter-putBefore-no now before p (without p (t .order)) (ap (λ (r : Process). test (r .state)) joined-same ∙ h)
       ∙ rest
-    where
-      now : ℕ → Bool
-      now x = test (stateOf (joining t p before st) x)
 
   -- the line that it joins
   pub line-join : (low : ℕ → Bool) → test st ≡ true → ((x : ℕ) → before x ≡ (test (stateOf t x) && low x)) → line (joining t p before st) test ≡ putBefore low p (without p (line t test))
   unfolding line joining
   line-join low h k =
+      let now : ℕ → Bool = λ x. test (stateOf (joining t p before st) x) in
       ap (filter now) (place-is before p (t .order) once)
       ∙ ap (filter now) (putBefore-ext before (λ x. now x && low x) p (t .order) (λ x n. k x ∙ ap (λ (r : Process). test (r .state) && low x) (sym (joined-other x n))))
       ∙ filter-putBefore-yes now (λ x. now x && low x) low p (without p (t .order)) (ap (λ (r : Process). test (r .state)) joined-same ∙ h) (λ x. refl)
       ∙ ap (putBefore low p) rest
-    where
-      now : ℕ → Bool
-      now x = test (stateOf (joining t p before st) x)
 
 -- The two joins that the rules make
 

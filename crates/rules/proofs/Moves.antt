@@ -3,25 +3,27 @@ use Prim.Native.Nat.{ℕ, _≤_, _<_}
 use native.Mathlib.Omega.{arith}
 use mathlib.Core.Bool.{Bool, true, false, not, _&&_}
 use mathlib.Core.Logic.{_≢_}
-use mathlib.Core.Path.{_≡_, refl, ap, _∙_, fun-ext}
+use mathlib.Core.Path.{_≡_, refl, ap, _∙_, fun-ext, sym}
+use mathlib.Core.List.{List, _∷_}
 use lib.Dec.{eqb, ltb}
 use lib.ListN.{length, length-set}
-use borrow.Author.Tests.{ltb-true, ltb-false, eqb-false}
+use borrow.Author.Tests.{ltb-true, ltb-false, eqb-false, eq-eqb}
 use Rattle.lists.specs.Lists.{without, times, Falling}
 use Rattle.lists.proofs.Bools.{either, not-true}
-use Rattle.lists.proofs.ListLaws.{times-place, length-place}
+use Rattle.lists.proofs.ListLaws.{times-place, length-place, without-first}
 use Rattle.lists.proofs.FallingLaws.{falling-filter, falling-ext, falling-put}
 use Rattle.tables.specs.declared.State.{State}
-use Rattle.tables.specs.declared.State.the-variants.{Ready}
+use Rattle.tables.specs.declared.State.the-variants.{Ready, Waiting}
 use Rattle.tables.specs.declared.Process.{Process}
 use Rattle.tables.specs.declared.Tables.{Tables}
 use Rattle.tables.specs.Limits.{processLimit}
-use Rattle.tables.specs.States.{isFree, isReady}
-use Rattle.tables.specs.Readers.{process, stateOf, priorityOf, line, readyList}
+use Rattle.tables.specs.States.{isFree, isReady, waitsOn}
+use Rattle.tables.specs.Readers.{process, stateOf, priorityOf, line, readyList, queue}
 use Rattle.tables.specs.Setters.{inState, withProcess}
 use Rattle.tables.specs.Sound.{SlotSound, Laid}
 use Rattle.tables.proofs.SlotLaws.{state-sound}
-use Rattle.tables.proofs.LineLaws.{at-same, at-other, line-leave, live-slot, live-once}
+use Rattle.tables.proofs.LineLaws.{at-same, at-other, line-leave, live-slot, live-once, line-first, live-below, in-line}
+use Rattle.tables.proofs.States.{waits-on}
 use Rattle.rules.specs.Schedule.{joining, readyBefore, makeReady}
 use Rattle.rules.proofs.Joins.{joined-same, joined-other, line-join-other, ready-joined}
 
@@ -120,3 +122,18 @@ module _ {t : Tables} (l : Laid t) where
 
   pub laid-ready : (p : ℕ) → p < processLimit → isFree (stateOf t p) ≡ false → Laid (makeReady t p)
   laid-ready p below h = laid-turned (ready-moved p below) refl h (falling-ready p below)
+
+-- The head of a queue
+
+module _ {t : Tables} (l : Laid t) (s f : ℕ) (fs : List ℕ) (e : queue t s ≡ f ∷ fs) where
+  pub head-waits : stateOf t f ≡ Waiting s
+  head-waits = waits-on (stateOf t f) s (line-first t (waitsOn s) f fs e)
+
+  pub head-below : f < processLimit
+  head-below = live-below l f (ap isFree head-waits)
+
+  -- when it becomes ready the rest is left
+  pub head-leaves : queue (makeReady t f) s ≡ fs
+  head-leaves =
+      let once : times f (f ∷ fs) ≡ 1 = ap (times f) (sym e) ∙ in-line l f (waitsOn s) head-below ∙ rw (head-waits, eq-eqb s s refl) in
+      ready-moved l f head-below .leaves (waitsOn s) refl ∙ ap (without f) e ∙ without-first f fs once

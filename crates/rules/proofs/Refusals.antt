@@ -9,7 +9,7 @@ use lib.Dec.{eqb, leb, ltb}
 use lib.IntN.{ℤ}
 use borrow.Author.Tests.{leb-true, ltb-true}
 use Rattle.lists.specs.Lists.{if_then_else_}
-use Rattle.lists.proofs.Bools.{both}
+use Rattle.lists.proofs.Bools.{both, split}
 use Rattle.tables.specs.declared.Tables.{Tables}
 use Rattle.rules.specs.declared.Answer.the-variants.{Done, Refused}
 use Rattle.rules.specs.declared.Outcome.{Outcome}
@@ -21,11 +21,8 @@ use Rattle.rules.specs.declared.Answer.{Answer}
 -- what is true of every refusal, and of what is done where no check holds, is true of the call
 pub unless-cases : {A : Type 0} (refuse : ℕ → A) (P : A → Type 0) → ((n : ℕ) → P (refuse n)) → (cs : List Check) (o : A) → (NoneHolds cs → P o) → P (unless refuse cs o)
 unless-cases refuse P ref [] o h = h tt
-unless-cases refuse P ref (c ∷ cs) o h = go (c .holds) refl (λ k. unless-cases refuse P ref cs o (λ r. h (k, r)))
-  where
-    go : (b : Bool) → c .holds ≡ b → (c .holds ≡ false → P (unless refuse cs o)) → P (if b then refuse (c .number) else unless refuse cs o)
-    go true e ih = ref (c .number)
-    go false e ih = ih e
+unless-cases refuse P ref (c ∷ cs) o h =
+    split (c .holds) (λ e. rw e (ref (c .number))) (λ e. rw e (unless-cases refuse P ref cs o (λ r. h (e, r))))
 
 -- a deed that goes by a test
 pub branch : (P : Deed → Type 0) (b : Bool) (x y : Deed) → (b ≡ true → P x) → (b ≡ false → P y) → P (if b then x else y)
@@ -95,11 +92,9 @@ Own (Refused n) = isOwn n ≡ true
 
 unless-own : (t : Tables) (cs : List Check) (o : Outcome) → allOwn cs ≡ true → Own (o .answer) → Own (unless (λ n. refused n t) cs o .answer)
 unless-own t [] o r h = h
-unless-own t (c ∷ cs) o r h = let k = both (isOwn (c .number)) (allOwn cs) r in go (c .holds) (k .0) (unless-own t cs o (k .1) h)
-  where
-    go : (b : Bool) → isOwn (c .number) ≡ true → Own (unless (λ n. refused n t) cs o .answer) → Own ((if b then refused (c .number) t else unless (λ n. refused n t) cs o) .answer)
-    go true r k = r
-    go false r k = k
+unless-own t (c ∷ cs) o r h =
+    let k = both (isOwn (c .number)) (allOwn cs) r in
+    split (c .holds) (λ e. rw e (k .0)) (λ e. rw e (unless-own t cs o (k .1) h))
 
 checks-own : (t : Tables) (c : Call) → allOwn (checks t c) ≡ true
 checks-own t (Wait a) = refl

@@ -1,26 +1,22 @@
 -- Delete and reset: every waiter is released. Assumes nothing.
-use Prim.Native.Nat.{ℕ, _<_}
+use Prim.Native.Nat.{ℕ}
 use native.Mathlib.Omega.{arith}
 use mathlib.Core.Bool.{true, false, not, true≢false}
 use mathlib.Core.List.{List, [], _∷_}
 use mathlib.Core.Logic.{_≢_}
 use mathlib.Core.Path.{_≡_, refl, sym, ap, _∙_}
-use borrow.Author.Tests.{eq-eqb, ne-eqb}
-use Rattle.lists.specs.Lists.{without, times, isEmpty}
-use Rattle.lists.proofs.ListLaws.{without-first}
-use Rattle.tables.specs.declared.State.the-variants.{Ready, Waiting}
+use borrow.Author.Tests.{ne-eqb}
+use Rattle.lists.specs.Lists.{isEmpty}
 use Rattle.tables.specs.declared.Semaphore.{Semaphore}
 use Rattle.tables.specs.declared.Tables.{Tables}
-use Rattle.tables.specs.Limits.{processLimit}
 use Rattle.tables.specs.States.{isFree, isCurrent, waitsOn}
-use Rattle.tables.specs.Readers.{stateOf, isUsed, queue, currents}
+use Rattle.tables.specs.Readers.{isUsed, queue, currents}
 use Rattle.tables.specs.Setters.{withSemaphore}
 use Rattle.tables.specs.Sound.{Laid, Running, Sound}
-use Rattle.tables.proofs.States.{waits-on}
-use Rattle.tables.proofs.LineLaws.{line-first, live-below, used-entry, in-line}
+use Rattle.tables.proofs.LineLaws.{used-entry}
 use Rattle.rules.specs.Schedule.{makeReady, makeAllReady}
 use Rattle.rules.specs.Calls.{release, finish}
-use Rattle.rules.proofs.Moves.{Turned, ready-moved, laid-ready}
+use Rattle.rules.proofs.Moves.{ready-moved, laid-ready, head-waits, head-below, head-leaves}
 use Rattle.rules.proofs.Resched.{Zero, line-kept, zero-moved, Prepared}
 use Rattle.rules.proofs.Effects.{Effect, line-entry, laid-entry, running-entry, effect-done}
 
@@ -36,33 +32,19 @@ record Freed (s : ℕ) (t t′ : Tables) : Type 0 where
 all-ready : (s : ℕ) (q : List ℕ) (t : Tables) → Laid t → Zero t → queue t s ≡ q → Freed s t (makeAllReady t q)
 unfolding makeAllReady
 all-ready s [] t l z e = record { laid = l; few = refl; zero = z; semaphores = refl; gone = e; others = λ r h. refl }
-all-ready s (f ∷ fs) t l z e = go (all-ready s fs (makeReady t f) (laid-ready l f below (ap isFree waits)) (zero-moved m refl z) rest)
-  where
-    waits : stateOf t f ≡ Waiting s
-    waits = waits-on (stateOf t f) s (line-first t (waitsOn s) f fs e)
-
-    below : f < processLimit
-    below = live-below l f (ap isFree waits)
-
-    m : Turned t (makeReady t f) f Ready
-    m = ready-moved l f below
-
-    once : times f (f ∷ fs) ≡ 1
-    once = ap (times f) (sym e) ∙ in-line l f (waitsOn s) below ∙ rw (waits, eq-eqb s s refl)
-
-    rest : queue (makeReady t f) s ≡ fs
-    rest = m .leaves (waitsOn s) refl ∙ ap (without f) e ∙ without-first f fs once
-
-    go : Freed s (makeReady t f) (makeAllReady (makeReady t f) fs) → Freed s t (makeAllReady (makeReady t f) fs)
-    go g =
-        record {
-          laid = g .laid;
-          few = g .few ∙ line-kept m isCurrent refl (ap isCurrent waits);
-          zero = g .zero;
-          semaphores = g .semaphores ∙ m .semaphores;
-          gone = g .gone;
-          others = λ r h. g .others r h ∙ line-kept m (waitsOn r) refl (ap (waitsOn r) waits ∙ ne-eqb s r (λ d. h (sym d)));
-        }
+all-ready s (f ∷ fs) t l z e =
+    let waits = head-waits l s f fs e in
+    let below = head-below l s f fs e in
+    let m = ready-moved l f below in
+    let g = all-ready s fs (makeReady t f) (laid-ready l f below (ap isFree waits)) (zero-moved m refl z) (head-leaves l s f fs e) in
+    record {
+      laid = g .laid;
+      few = g .few ∙ line-kept m isCurrent refl (ap isCurrent waits);
+      zero = g .zero;
+      semaphores = g .semaphores ∙ m .semaphores;
+      gone = g .gone;
+      others = λ r h. g .others r h ∙ line-kept m (waitsOn r) refl (ap (waitsOn r) waits ∙ ne-eqb s r (λ d. h (sym d)));
+    }
 
 module _ {t : Tables} (S : Sound t) (s : ℕ) (x : Semaphore) where
   freed : Freed s (withSemaphore t s x) (makeAllReady (withSemaphore t s x) (queue t s))

@@ -7,9 +7,9 @@ use mathlib.Core.Logic.{_≢_}
 use mathlib.Core.Path.{_≡_, refl, sym, ap, _∙_}
 use lib.Dec.{eqb, ltb}
 use lib.ListN.{length}
-use borrow.Author.Tests.{ltb-true, eqb-true, eqb-false}
-use Rattle.lists.specs.Lists.{if_then_else_, without, times, firstOr, first, Falling}
-use Rattle.lists.proofs.Bools.{either}
+use borrow.Author.Tests.{ltb-true, eq-eqb, ne-eqb}
+use Rattle.lists.specs.Lists.{without, times, firstOr, first, Falling}
+use Rattle.lists.proofs.Bools.{split, either}
 use Rattle.lists.proofs.ListLaws.{filter-ext, filter-only, filter-none, times-length, putBefore-some, without-only, one-or-none}
 use Rattle.lists.proofs.FallingLaws.{atMost-member}
 use Rattle.tables.specs.declared.State.{State}
@@ -21,9 +21,9 @@ use Rattle.tables.specs.States.{isFree, isCurrent, isReady, waitsOn}
 use Rattle.tables.specs.Readers.{stateOf, priorityOf, line, readyList, queue, currents, currentOf}
 use Rattle.tables.specs.Setters.{withState}
 use Rattle.tables.specs.Sound.{Laid, Running}
-use Rattle.tables.proofs.States.{ready-live, ready-no-waiter, current-live, current-no-waiter}
-use Rattle.tables.proofs.LineLaws.{line-absent, line-first, live-below, live-slot, live-once, in-line}
-use Rattle.rules.specs.Schedule.{readyBefore, makeReady, startFirst, switch, reschedule}
+use Rattle.tables.proofs.States.{is-current, is-ready}
+use Rattle.tables.proofs.LineLaws.{line-absent, line-first, live-below, live-slot, live-once, in-line-live}
+use Rattle.rules.specs.Schedule.{readyBefore, startFirst, switch, reschedule}
 use Rattle.rules.specs.Calls.{Deed, finish}
 use Rattle.rules.proofs.Joins.{ready-joined}
 use Rattle.rules.proofs.Moves.{Moved, Turned, moved-slot, moved-join, turned-priority, laid-turned, falling-left, falling-ready}
@@ -49,13 +49,12 @@ line-kept {t} {t′} {p} m test h k = m .leaves test h ∙ line-absent t p test 
 pub line-enter : (t : Tables) (p : ℕ) (st : State) (test : State → Bool) → Turned t (withState t p st) p st → times p (t .order) ≡ 1 → test st ≡ true → line t test ≡ [] → line (withState t p st) test ≡ p ∷ []
 unfolding line
 line-enter t p st test m h1 h e =
-    filter-ext (t .order) (λ x. go x (eqb x p) refl)
+    filter-ext (t .order)
+    (λ x. either x p
+    (λ k. rw (k, eq-eqb p p refl) (ap (λ (r : Process). test (r .state)) (m .same) ∙ h))
+    (λ k. rw (ne-eqb x p k) (ap (λ (r : Process). test (r .state)) (m .other x k))))
     ∙ filter-none (λ x. test (stateOf t x)) (λ x. eqb x p) (t .order) e
     ∙ filter-only p (t .order) h1
-  where
-    go : (x : ℕ) (b : Bool) → eqb x p ≡ b → test (stateOf (withState t p st) x) ≡ (b || test (stateOf t x))
-    go x true k = rw (eqb-true x p k) (ap (λ (r : Process). test (r .state)) (m .same) ∙ h)
-    go x false k = ap (λ (r : Process). test (r .state)) (m .other x (eqb-false x p k))
 
 -- Process 0
 
@@ -69,17 +68,17 @@ zero-moved {p = p} m h z = either 0 p (λ e. rw e (ap (λ (r : Process). isCurre
 
 pub ready-top : {t : Tables} → Laid t → (f : ℕ) (fs : List ℕ) → readyList t ≡ f ∷ fs → (p : ℕ) → isReady (stateOf t p) ≡ true → priorityOf t p ≤ priorityOf t f
 ready-top {t} l f fs e p h =
-    let n : times p (readyList t) ≡ 1 = in-line l p isReady (live-below l p (ready-live (stateOf t p) h)) ∙ ap (λ (b : Bool). if b then 1 else 0) h in
+    let n : times p (readyList t) ≡ 1 = in-line-live l p isReady refl ∙ rw h in
     let fall : Falling (priorityOf t) (f ∷ fs) = rw e at (l .falling) in
     let n′ : times p (f ∷ fs) ≡ 1 = rw e at n in
     atMost-member (priorityOf t) (priorityOf t f) (f ∷ fs) p (omega arith, fall .0) (omega arith)
 
 module _ (t : Tables) (l : Laid t) (none : currents t ≡ []) (z : Zero t) (f : ℕ) (fs : List ℕ) (e : readyList t ≡ f ∷ fs) where
-  f-ready : isReady (stateOf t f) ≡ true
-  f-ready = line-first t isReady f fs e
+  f-ready : stateOf t f ≡ Ready
+  f-ready = is-ready (stateOf t f) (line-first t isReady f fs e)
 
   f-below : f < processLimit
-  f-below = live-below l f (ready-live (stateOf t f) f-ready)
+  f-below = live-below l f (ap isFree f-ready)
 
   f-moved : Turned t (withState t f Current) f Current
   f-moved = moved-slot t f _ (live-slot l f f-below)
@@ -88,31 +87,26 @@ module _ (t : Tables) (l : Laid t) (none : currents t ≡ []) (z : Zero t) (f : 
   f-current = line-enter t f Current isCurrent f-moved (live-once l f f-below) refl none
 
   f-top : (p : ℕ) → stateOf (withState t f Current) p ≡ Ready → priorityOf t p ≤ priorityOf t f
-  f-top p k = go (eqb p f) refl
-    where
-      go : (b : Bool) → eqb p f ≡ b → priorityOf t p ≤ priorityOf t f
-      go true d = rw (eqb-true p f d) (omega arith)
-      go false d = ready-top l f fs e p (ap isReady (ap (λ (r : Process). r .state) (sym (f-moved .other p (eqb-false p f d))) ∙ k))
+  f-top p k =
+      either p f (λ d. rw d (omega arith)) (λ d. ready-top l f fs e p (ap isReady (ap (λ (r : Process). r .state) (sym (f-moved .other p d)) ∙ k)))
 
   pub dispatch-settled : Settled t (withState t f Current)
   unfolding firstOr
   dispatch-settled =
+      let after : Tables = withState t f Current in
       record {
-        laid = laid-turned l f-moved refl (ready-live (stateOf t f) f-ready) (falling-left l f-moved refl);
+        laid = laid-turned l f-moved refl (ap isFree f-ready) (falling-left l f-moved refl);
         running = record {
           one = ap length f-current;
           zero = zero-moved f-moved refl z;
-          top = λ p k. top′ p k;
+          top = λ p k.
+              let a : priorityOf after p ≡ priorityOf t p = turned-priority f-moved p in
+              let b : priorityOf after (currentOf after) ≡ priorityOf t f = ap (λ (c : List ℕ). priorityOf after (first c)) f-current ∙ turned-priority f-moved f in
+              omega (arith, f-top p k);
         };
         semaphores = refl;
-        queues = λ s. line-kept f-moved (waitsOn s) refl (ready-no-waiter (stateOf t f) s f-ready);
+        queues = λ s. line-kept f-moved (waitsOn s) refl (ap (waitsOn s) f-ready);
       }
-    where
-      top′ : (p : ℕ) → stateOf (withState t f Current) p ≡ Ready → priorityOf (withState t f Current) p ≤ priorityOf (withState t f Current) (currentOf (withState t f Current))
-      top′ p k =
-          let a : priorityOf (withState t f Current) p ≡ priorityOf t p = turned-priority f-moved p in
-          let b : priorityOf (withState t f Current) (currentOf (withState t f Current)) ≡ priorityOf t f = ap (λ (c : List ℕ). priorityOf (withState t f Current) (first c)) f-current ∙ turned-priority f-moved f in
-          omega (arith, f-top p k)
 
 pub start-settled : (t : Tables) → Laid t → currents t ≡ [] → Zero t → (r : List ℕ) → readyList t ≡ r → r ≢ [] → Settled t (startFirst t r)
 unfolding startFirst
@@ -122,37 +116,33 @@ start-settled t l none z (f ∷ fs) e h = dispatch-settled t l none z f fs e
 pub settled-trans : {t t′ t″ : Tables} → t′ .semaphores ≡ t .semaphores → ((s : ℕ) → queue t′ s ≡ queue t s) → Settled t′ t″ → Settled t t″
 settled-trans a b g = record { laid = g .laid; running = g .running; semaphores = g .semaphores ∙ a; queues = λ s. g .queues s ∙ b s }
 
+-- nothing happens
+pub settled-still : {t : Tables} → Laid t → Running t → Settled t t
+settled-still l r = record { laid = l; running = r; semaphores = refl; queues = λ s. refl }
+
 -- The whole rule
 
 module _ (t : Tables) (l : Laid t) (few : length (currents t) ≤ 1) (z : Zero t) where
-  stay : Running t → Settled t t
-  stay r = record { laid = l; running = r; semaphores = refl; queues = λ s. refl }
-
   nobody : readyList t ≡ [] → (p : ℕ) → isReady (stateOf t p) ≡ false
   unfolding times
-  nobody e p = go (isReady (stateOf t p)) refl
-    where
-      go : (b : Bool) → isReady (stateOf t p) ≡ b → b ≡ false
-      go false h = refl
-      go true h =
-          let n : times p (readyList t) ≡ 1 = in-line l p isReady (live-below l p (ready-live (stateOf t p) h)) ∙ ap (λ (b : Bool). if b then 1 else 0) h in
-          let m : times p (readyList t) ≡ 0 = ap (times p) e in
-          absurd (omega arith)
+  nobody e p =
+      split (isReady (stateOf t p))
+      (λ h.
+      let n : times p (readyList t) ≡ 1 = in-line-live l p isReady refl ∙ rw h in
+      let m : times p (readyList t) ≡ 0 = ap (times p) e in
+      absurd (omega arith))
+      (λ h. h)
 
   -- nobody is ready
   alone : readyList t ≡ [] → Running t
   alone e =
       record {
-        one = let a : 1 ≤ length (currents t) = zero-there (isCurrent (stateOf t 0)) refl (nobody e 0) in omega arith;
+        one = split (isCurrent (stateOf t 0))
+            (λ h. let n : times 0 (currents t) ≡ 1 = in-line-live l 0 isCurrent refl ∙ rw h in omega (arith, times-length 0 (currents t)))
+            (λ h. absurd (true≢false (sym z ∙ rw (h, nobody e 0))));
         zero = z;
         top = λ p h. absurd (true≢false (sym (ap isReady h) ∙ nobody e p));
       }
-    where
-      zero-there : (b : Bool) → isCurrent (stateOf t 0) ≡ b → isReady (stateOf t 0) ≡ false → 1 ≤ length (currents t)
-      zero-there true h k =
-          let n : times 0 (currents t) ≡ 1 = in-line l 0 isCurrent (omega arith) ∙ ap (λ (b : Bool). if b then 1 else 0) h in
-          omega (arith, times-length 0 (currents t))
-      zero-there false h k = absurd (true≢false (sym z ∙ ap (λ (b : Bool). b || isReady (stateOf t 0)) h ∙ k))
 
   -- c is current, and above the first ready one
   above : (c f : ℕ) (fs cs : List ℕ) → currents t ≡ c ∷ cs → readyList t ≡ f ∷ fs → priorityOf t f < priorityOf t c → Running t
@@ -169,34 +159,23 @@ module _ (t : Tables) (l : Laid t) (few : length (currents t) ≤ 1) (z : Zero t
 
   put-back : (low : ℕ → Bool) (c : ℕ) (cs : List ℕ) → currents t ≡ c ∷ cs → (c < processLimit → Falling (priorityOf (readyBefore low t c)) (readyList (readyBefore low t c))) → Settled t (startFirst (readyBefore low t c) (readyList (readyBefore low t c)))
   put-back low c cs k fall =
-      settled-trans (m .semaphores) (λ s. line-kept m (waitsOn s) refl (current-no-waiter (stateOf t c) s here))
-      (start-settled (readyBefore low t c) (laid-turned l m refl live (fall below)) gone (zero-moved m refl z) (readyList (readyBefore low t c)) refl
+      let here : stateOf t c ≡ Current = is-current (stateOf t c) (line-first t isCurrent c cs k) in
+      let below : c < processLimit = live-below l c (ap isFree here) in
+      let m : Turned t (readyBefore low t c) c Ready = moved-join t c _ Ready (live-slot l c below) (live-once l c below) in
+      let gone : currents (readyBefore low t c) ≡ [] =
+      m .leaves isCurrent refl ∙ ap (without c) (k ∙ ap (λ (r : List ℕ). c ∷ r) (one-or-none c cs (rw k at few))) ∙ without-only c in
+      settled-trans (m .semaphores) (λ s. line-kept m (waitsOn s) refl (ap (waitsOn s) here))
+      (start-settled (readyBefore low t c) (laid-turned l m refl (ap isFree here) (fall below)) gone (zero-moved m refl z) (readyList (readyBefore low t c)) refl
       (λ h. putBefore-some low c (without c (readyList t)) (sym (ready-joined low t c (live-slot l c below) (live-once l c below)) ∙ h)))
-    where
-      here : isCurrent (stateOf t c) ≡ true
-      here = line-first t isCurrent c cs k
-
-      live : isFree (stateOf t c) ≡ false
-      live = current-live (stateOf t c) here
-
-      below : c < processLimit
-      below = live-below l c live
-
-      m : Turned t (readyBefore low t c) c Ready
-      m = moved-join t c _ Ready (live-slot l c below) (live-once l c below)
-
-      gone : currents (readyBefore low t c) ≡ []
-      gone = m .leaves isCurrent refl ∙ ap (without c) (k ∙ ap (λ (r : List ℕ). c ∷ r) (one-or-none c cs (rw k at few))) ∙ without-only c
 
   by-cases : (r c : List ℕ) → readyList t ≡ r → currents t ≡ c → Settled t (switch t r c)
   unfolding switch
-  by-cases [] cs e k = stay (alone e)
+  by-cases [] cs e k = settled-still l (alone e)
   by-cases (f ∷ fs) [] e k = start-settled t l k z (readyList t) refl (λ h. cons≢nil (sym e ∙ h))
-  by-cases (f ∷ fs) (c ∷ cs) e k = go (ltb (priorityOf t f) (priorityOf t c)) refl
-    where
-      go : (b : Bool) → ltb (priorityOf t f) (priorityOf t c) ≡ b → Settled t (if b then t else startFirst (makeReady t c) (readyList (makeReady t c)))
-      go true d = stay (above c f fs cs k e (ltb-true (priorityOf t f) (priorityOf t c) d))
-      go false d = put-back (λ x. ltb (priorityOf t x) (priorityOf t c)) c cs k (falling-ready l c)
+  by-cases (f ∷ fs) (c ∷ cs) e k =
+      split (ltb (priorityOf t f) (priorityOf t c))
+      (λ d. rw d (settled-still l (above c f fs cs k e (ltb-true (priorityOf t f) (priorityOf t c) d))))
+      (λ d. rw d (put-back (λ x. ltb (priorityOf t x) (priorityOf t c)) c cs k (falling-ready l c)))
 
   pub settled : Settled t (reschedule t)
   unfolding reschedule
@@ -210,8 +189,4 @@ pub record Prepared (d : Deed) : Type 0 where
   pub runs : d .reschedules ≡ false → Running (d .tables)
 
 pub finished : {d : Deed} → Prepared d → Settled (d .tables) (finish d .tables)
-finished {d} P = go (d .reschedules) refl
-  where
-    go : (b : Bool) → d .reschedules ≡ b → Settled (d .tables) (if b then reschedule (d .tables) else d .tables)
-    go true e = settled (d .tables) (P .laid) (P .few) (P .zero)
-    go false e = record { laid = P .laid; running = P .runs e; semaphores = refl; queues = λ s. refl }
+finished {d} P = split (d .reschedules) (λ e. rw e (settled (d .tables) (P .laid) (P .few) (P .zero))) (λ e. rw e (settled-still (P .laid) (P .runs e)))

@@ -42,24 +42,19 @@ module _ {t : Tables} (l : Laid t) (p : ℕ) (below : p < processLimit) (y : Pro
   pub running-set : 0 ≢ p → Running t → isCurrent (stateOf t p) ≡ false → isCurrent (y .state) ≡ false → Running (withProcess t p y)
   unfolding firstOr
   running-set hz r hc hy =
+      let same : currents (withProcess t p y) ≡ currents t = line-kept set-moved isCurrent hy hc in
+      let c-other : currentOf t ≢ p = λ e. true≢false (sym (ap isCurrent (current-is r)) ∙ ap (λ (n : ℕ). isCurrent (stateOf t n)) e ∙ hc) in
+      let b : priorityOf (withProcess t p y) (currentOf (withProcess t p y)) ≡ priorityOf t (currentOf t) =
+      ap (λ (c : List ℕ). priorityOf (withProcess t p y) (first c)) same ∙ ap (λ (x : Process). x .priority) (set-moved .other (currentOf t) c-other) in
       record {
         one = ap length same ∙ r .one;
         zero = zero-other set-moved hz (r .zero);
         top = λ q k. either q p
             (λ e. absurd (true≢false (sym (ap isReady k) ∙ ap (λ (n : ℕ). isReady (stateOf (withProcess t p y) n)) e ∙ ap (λ (x : Process). isReady (x .state)) (set-moved .same) ∙ hr)))
-            (λ e. top′ q (ap (λ (x : Process). x .priority) (set-moved .other q e)) (r .top q (ap (λ (x : Process). x .state) (sym (set-moved .other q e)) ∙ k)));
+            (λ e.
+            let a : priorityOf (withProcess t p y) q ≡ priorityOf t q = ap (λ (x : Process). x .priority) (set-moved .other q e) in
+            omega (arith, r .top q (ap (λ (x : Process). x .state) (sym (set-moved .other q e)) ∙ k)));
       }
-    where
-      same : currents (withProcess t p y) ≡ currents t
-      same = line-kept set-moved isCurrent hy hc
-
-      c-other : currentOf t ≢ p
-      c-other e = true≢false (sym (ap isCurrent (current-is r)) ∙ ap (λ (n : ℕ). isCurrent (stateOf t n)) e ∙ hc)
-
-      top′ : (q : ℕ) → priorityOf (withProcess t p y) q ≡ priorityOf t q → priorityOf t q ≤ priorityOf t (currentOf t) → priorityOf (withProcess t p y) q ≤ priorityOf (withProcess t p y) (currentOf (withProcess t p y))
-      top′ q a h =
-          let b : priorityOf (withProcess t p y) (currentOf (withProcess t p y)) ≡ priorityOf t (currentOf t) = ap (λ (c : List ℕ). priorityOf (withProcess t p y) (first c)) same ∙ ap (λ (x : Process). x .priority) (set-moved .other (currentOf t) c-other) in
-          omega arith
 
 -- A process that waits on nothing stops
 
@@ -118,15 +113,11 @@ module _ {t : Tables} (S : Sound t) (p s : ℕ) (hz : 0 ≢ p) (h : stateOf t p 
 
   pub kill-waiter : (v : ℤ) → Effect t (finish (stop v (withCount t s (sucℤ (countOf t s))) p freeSlot) .tables) s (isUsed t s) (sucℤ (countOf t s)) (without p (queue t s))
   kill-waiter v =
+      let x : Semaphore = record { used = isUsed t s; count = sucℤ (countOf t s) } in
+      let m = set-moved (laid-count (sucℤ (countOf t s))) p waiter-in freeSlot refl in
       effect-done (stop v (withSemaphore t s x) p freeSlot) s x (used-entry (S .laid) s (waiter-used S p s h)) (kill-prepared v (sucℤ (countOf t s))) refl
       (m .leaves (waitsOn s) refl ∙ ap (without p) (line-entry t s x (waitsOn s)))
       (λ r k. line-kept m (waitsOn r) refl (ap (waitsOn r) h ∙ ne-eqb s r (λ d. k (sym d))) ∙ line-entry t s x (waitsOn r))
-    where
-      x : Semaphore
-      x = record { used = isUsed t s; count = sucℤ (countOf t s) }
-
-      m : Moved (withSemaphore t s x) (withProcess (withSemaphore t s x) p freeSlot) p freeSlot
-      m = set-moved (laid-count (x .count)) p waiter-in freeSlot refl
 
 pub counted-kill : (c : ℤ) (q : List ℕ) (p : ℕ) → Counted c q → times p q ≡ 1 → Counted (sucℤ c) (without p q)
 counted-kill (pos n) q p h k = absurd (times-empty p q k h)
@@ -159,8 +150,3 @@ yield-prepared S v = record { laid = S .laid; few = rw (S .running .one) (omega 
 
 pub yield-settled : {t : Tables} → Sound t → (v : ℤ) → Settled t (finish (switching v t) .tables)
 yield-settled S v = finished (yield-prepared S v)
-
--- nothing happens
-
-pub stay-settled : {t : Tables} → Sound t → Settled t t
-stay-settled S = record { laid = S .laid; running = S .running; semaphores = refl; queues = λ s. refl }

@@ -1,5 +1,5 @@
 -- Wait and signal: what they do to the semaphore that they name. Assumes nothing.
-use Prim.Native.Nat.{ℕ, zero, suc, _<_}
+use Prim.Native.Nat.{ℕ, zero, suc}
 use native.Mathlib.Omega.{arith}
 use mathlib.Core.Bool.{Bool, true, false, _&&_, true≢false, and-true}
 use mathlib.Core.List.{List, [], _∷_, _++_}
@@ -10,22 +10,21 @@ use lib.IntN.{ℤ, pos, negsuc, sucℤ, predℤ}
 use lib.ListN.{length, drop, length-append}
 use lib.Signed.{leZ}
 use borrow.Author.Tests.{ne-eqb, eqb-false}
-use Rattle.lists.specs.Lists.{if_then_else_, without, times, firstOr, first}
-use Rattle.lists.proofs.ListLaws.{without-only, without-first}
-use Rattle.tables.specs.declared.State.the-variants.{Ready, Waiting}
+use Rattle.lists.specs.Lists.{if_then_else_, without, firstOr, first}
+use Rattle.lists.proofs.Bools.{split}
+use Rattle.lists.proofs.ListLaws.{without-only}
+use Rattle.tables.specs.declared.State.the-variants.{Waiting}
 use Rattle.tables.specs.declared.Tables.{Tables}
-use Rattle.tables.specs.Limits.{processLimit}
 use Rattle.tables.specs.States.{isFree, isCurrent, waitsOn}
 use Rattle.tables.specs.Readers.{stateOf, isUsed, countOf, queue, currents, currentOf}
 use Rattle.tables.specs.Setters.{withCount}
 use Rattle.tables.specs.Sound.{Laid, Counted, Sound}
-use Rattle.tables.proofs.States.{waits-on}
-use Rattle.tables.proofs.LineLaws.{line-absent, line-first, live-below, live-slot, live-once, used-entry}
-use Rattle.tables.proofs.Sentences.{sentences, current-only, current-is, current-below}
+use Rattle.tables.proofs.LineLaws.{line-absent, live-slot, live-once, used-entry}
+use Rattle.tables.proofs.Sentences.{current-only, current-is, current-below}
 use Rattle.rules.specs.Schedule.{makeReady, makeWait}
-use Rattle.rules.specs.Calls.{below0, plain, switching, waitOn, signalOn, finish}
+use Rattle.rules.specs.Calls.{below0, switching, waitOn, signalOn, finish}
 use Rattle.rules.proofs.Joins.{queue-makeWait}
-use Rattle.rules.proofs.Moves.{Turned, moved-join, laid-turned, falling-left, ready-moved, laid-ready}
+use Rattle.rules.proofs.Moves.{Turned, moved-join, laid-turned, falling-left, ready-moved, laid-ready, head-waits, head-below, head-leaves}
 use Rattle.rules.proofs.Resched.{line-kept, zero-other, zero-moved, Prepared}
 use Rattle.rules.proofs.Effects.{Effect, line-entry, laid-entry, running-entry, effect-entry, effect-done}
 
@@ -43,6 +42,13 @@ counted-signal (negsuc zero) (x ∷ []) h = refl
 counted-signal (negsuc zero) (x ∷ y ∷ q) h = absurd (omega arith)
 counted-signal (negsuc (suc n)) [] h = absurd (omega arith)
 counted-signal (negsuc (suc n)) (x ∷ q) h = omega arith
+
+-- a count below 0 has a first waiter
+pub first-waiter : (c : ℤ) (q : List ℕ) → below0 c ≡ true → Counted c q → q ≡ first q ∷ drop 1 q
+unfolding firstOr
+first-waiter (pos n) q b h = absurd (true≢false (sym b))
+first-waiter (negsuc n) [] b h = absurd (omega arith)
+first-waiter (negsuc n) (f ∷ fs) b h = refl
 
 -- the caller blocks only where it isn't process 0
 pub blocks-not-null : (c : ℤ) (p : ℕ) → (eqb p 0 && leZ c (pos 0)) ≡ false → below0 (predℤ c) ≡ true → 0 ≢ p
@@ -71,88 +77,56 @@ module _ {t : Tables} (S : Sound t) (s : ℕ) (hu : isUsed t s ≡ true) where
 
   pub wait-prepared : (c : ℤ) → 0 ≢ currentOf t → Prepared (switching (pos 1) (makeWait (withCount t s c) (currentOf t) s))
   wait-prepared c hz =
+      let l : Laid (withCount t s c) = laid-entry (S .laid) s _ in
+      let m = waiting-moved c in
+      let none : currents (makeWait (withCount t s c) (currentOf t) s) ≡ [] =
+      m .leaves isCurrent refl ∙ ap (without (currentOf t)) (line-entry t s _ isCurrent ∙ current-only (S .running)) ∙ without-only (currentOf t) in
       record {
         laid = laid-turned l m refl (ap isFree (current-is (S .running))) (falling-left l m refl);
         few = rw none (omega arith);
         zero = zero-other m hz (S .running .zero);
         runs = λ h. absurd (true≢false h);
       }
-    where
-      l : Laid (withCount t s c)
-      l = laid-entry (S .laid) s _
-
-      m : Turned (withCount t s c) (makeWait (withCount t s c) (currentOf t) s) (currentOf t) (Waiting s)
-      m = waiting-moved c
-
-      none : currents (makeWait (withCount t s c) (currentOf t) s) ≡ []
-      none = m .leaves isCurrent refl ∙ ap (without (currentOf t)) (line-entry t s _ isCurrent ∙ current-only (S .running)) ∙ without-only (currentOf t)
 
   blocks : (c : ℤ) → 0 ≢ currentOf t → Effect t (finish (switching (pos 1) (makeWait (withCount t s c) (currentOf t) s)) .tables) s (isUsed t s) c (queue t s ++ currentOf t ∷ [])
   blocks c hz =
+      let p : ℕ = currentOf t in
+      let l : Laid (withCount t s c) = laid-entry (S .laid) s _ in
+      let idle : (r : ℕ) → waitsOn r (stateOf t p) ≡ false = λ r. ap (waitsOn r) (current-is (S .running)) in
       effect-done _ s (record { used = isUsed t s; count = c }) (used-entry (S .laid) s hu) (wait-prepared c hz) (waiting-moved c .semaphores)
       (queue-makeWait (withCount t s c) p s (live-slot l p (current-below S)) (live-once l p (current-below S)) ∙ ap (λ (q : List ℕ). q ++ p ∷ []) (line-absent (withCount t s c) p (waitsOn s) (idle s) ∙ line-entry t s _ (waitsOn s)))
       (λ r h. line-kept (waiting-moved c) (waitsOn r) (ne-eqb s r (λ e. h (sym e))) (idle r) ∙ line-entry t s _ (waitsOn r))
-    where
-      p : ℕ
-      p = currentOf t
-
-      l : Laid (withCount t s c)
-      l = laid-entry (S .laid) s _
-
-      idle : (r : ℕ) → waitsOn r (stateOf t p) ≡ false
-      idle r = ap (waitsOn r) (current-is (S .running))
 
   pub wait-effect : (eqb (currentOf t) 0 && leZ (countOf t s) (pos 0)) ≡ false
       → Effect t (finish (waitOn t s) .tables) s (isUsed t s) (predℤ (countOf t s)) (if below0 (predℤ (countOf t s)) then queue t s ++ currentOf t ∷ [] else queue t s)
-  wait-effect h = go (below0 (predℤ (countOf t s))) refl
-    where
-      c : ℤ
-      c = predℤ (countOf t s)
-
-      go : (b : Bool) → below0 c ≡ b → Effect t (finish (if b then switching (pos 1) (makeWait (withCount t s c) (currentOf t) s) else plain (pos 1) (withCount t s c)) .tables) s (isUsed t s) c (if b then queue t s ++ currentOf t ∷ [] else queue t s)
-      go true e = blocks c (blocks-not-null (countOf t s) (currentOf t) h e)
-      go false e = only c
+  wait-effect h =
+      let c : ℤ = predℤ (countOf t s) in
+      split (below0 c) (λ e. rw e (blocks c (blocks-not-null (countOf t s) (currentOf t) h e))) (λ e. rw e (only c))
 
   -- the queue's head becomes ready
 
-  head-waits : (f : ℕ) (fs : List ℕ) → queue t s ≡ f ∷ fs → stateOf t f ≡ Waiting s
-  head-waits f fs e = waits-on (stateOf t f) s (line-first t (waitsOn s) f fs e)
-
-  head-below : (f : ℕ) (fs : List ℕ) → queue t s ≡ f ∷ fs → f < processLimit
-  head-below f fs e = live-below (S .laid) f (ap isFree (head-waits f fs e))
-
   pub signal-prepared : (c : ℤ) (f : ℕ) (fs : List ℕ) → queue t s ≡ f ∷ fs → Prepared (switching (pos 1) (makeReady (withCount t s c) f))
   signal-prepared c f fs e =
+      let l : Laid (withCount t s c) = laid-entry (S .laid) s _ in
+      let m = ready-moved l f (head-below (S .laid) s f fs e) in
       record {
-        laid = laid-ready l f (head-below f fs e) (ap isFree (head-waits f fs e));
-        few = rw (line-kept m isCurrent refl (ap isCurrent (head-waits f fs e)) ∙ line-entry t s _ isCurrent, S .running .one) (omega arith);
+        laid = laid-ready l f (head-below (S .laid) s f fs e) (ap isFree (head-waits (S .laid) s f fs e));
+        few = rw (line-kept m isCurrent refl (ap isCurrent (head-waits (S .laid) s f fs e)) ∙ line-entry t s _ isCurrent, S .running .one) (omega arith);
         zero = zero-moved m refl (S .running .zero);
         runs = λ h. absurd (true≢false h);
       }
-    where
-      l : Laid (withCount t s c)
-      l = laid-entry (S .laid) s _
-
-      m : Turned (withCount t s c) (makeReady (withCount t s c) f) f Ready
-      m = ready-moved l f (head-below f fs e)
 
   wakes : (c : ℤ) (f : ℕ) (fs : List ℕ) → queue t s ≡ f ∷ fs → Effect t (finish (switching (pos 1) (makeReady (withCount t s c) f)) .tables) s (isUsed t s) c fs
   wakes c f fs e =
+      let l : Laid (withCount t s c) = laid-entry (S .laid) s _ in
+      let m = ready-moved l f (head-below (S .laid) s f fs e) in
       effect-done _ s (record { used = isUsed t s; count = c }) (used-entry (S .laid) s hu) (signal-prepared c f fs e) (m .semaphores)
-      (m .leaves (waitsOn s) refl ∙ ap (without f) (line-entry t s _ (waitsOn s) ∙ e) ∙ without-first f fs once)
-      (λ r h. line-kept m (waitsOn r) refl (ap (waitsOn r) (head-waits f fs e) ∙ ne-eqb s r (λ d. h (sym d))) ∙ line-entry t s _ (waitsOn r))
-    where
-      once : times f (f ∷ fs) ≡ 1
-      once = ap (times f) (sym e) ∙ sentences S .queuedOnce f s (head-waits f fs e)
-
-      m : Turned (withCount t s c) (makeReady (withCount t s c) f) f Ready
-      m = ready-moved (laid-entry (S .laid) s _) f (head-below f fs e)
+      (head-leaves l s f fs (line-entry t s _ (waitsOn s) ∙ e))
+      (λ r h. line-kept m (waitsOn r) refl (ap (waitsOn r) (head-waits (S .laid) s f fs e) ∙ ne-eqb s r (λ d. h (sym d))) ∙ line-entry t s _ (waitsOn r))
 
   pub signal-effect : Effect t (finish (signalOn t s) .tables) s (isUsed t s) (sucℤ (countOf t s)) (if below0 (countOf t s) then drop 1 (queue t s) else queue t s)
   unfolding firstOr
-  signal-effect = go (countOf t s) refl (queue t s) refl (S .queued .counted s)
-    where
-      go : (c : ℤ) → countOf t s ≡ c → (q : List ℕ) → queue t s ≡ q → Counted c q → Effect t (finish (if below0 c then switching (pos 1) (makeReady (withCount t s (sucℤ c)) (first q)) else plain (pos 1) (withCount t s (sucℤ c))) .tables) s (isUsed t s) (sucℤ c) (if below0 c then drop 1 q else q)
-      go (pos n) d q e k = rw (← e) (only (pos (suc n)))
-      go (negsuc n) d [] e k = absurd (omega arith)
-      go (negsuc n) d (f ∷ fs) e k = wakes (sucℤ (negsuc n)) f fs e
+  signal-effect =
+      split (below0 (countOf t s))
+      (λ b. rw b (wakes (sucℤ (countOf t s)) (first (queue t s)) (drop 1 (queue t s)) (first-waiter (countOf t s) (queue t s) b (S .queued .counted s))))
+      (λ b. rw b (only (sucℤ (countOf t s))))

@@ -14,7 +14,7 @@ use Rattle.layout.specs.Offsets.{statesAt}
 use Rattle.layout.specs.Stands.{Stands, Tells}
 use Rattle.lists.specs.Lists.{filter, firstOr}
 use Rattle.tables.specs.Limits.{processLimit, semaphoreLimit}
-use Rattle.tables.specs.Readers.{currents, line, queue, readyList, stateOf}
+use Rattle.tables.specs.Readers.{line, queue, readyList, stateOf}
 use Rattle.tables.specs.States.{isCurrent, isReady, waitsOn}
 use Rattle.tables.specs.declared.State.{State}
 use Rattle.tables.specs.declared.State.the-variants.{Current, Free, Ready, Suspended, Waiting}
@@ -82,9 +82,6 @@ current-byte Current = refl
 current-byte Ready = refl
 current-byte Suspended = refl
 current-byte (Waiting q) = wait-byte q 1 (omega arith)
-
-pub line-current : (t : Tables) → line t (byByte 1) ≡ currents t
-line-current t = same-line t (byByte 1) isCurrent current-byte
 
 pub line-queue : (t : Tables) (s : ℕ) → s < semaphoreLimit → line t (byByte (4 + s)) ≡ queue t s
 line-queue t s h = same-line t (byByte (4 + s)) (waitsOn s) same

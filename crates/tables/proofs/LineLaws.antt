@@ -8,9 +8,9 @@ use mathlib.Core.Path.{_≡_, refl, sym, ap, _∙_}
 use lib.Dec.{eqb}
 use lib.ListN.{length, getD, set, List·getD-eq-default}
 use lib.Seq.{getD-set-same, getD-set-other}
-use borrow.Author.Tests.{eq-eqb, lt-ltb, eqb-true, eqb-false}
+use borrow.Author.Tests.{eq-eqb, ne-eqb, lt-ltb}
 use Rattle.lists.specs.Lists.{if_then_else_, without, times}
-use Rattle.lists.proofs.Bools.{below?}
+use Rattle.lists.proofs.Bools.{either, below?}
 use Rattle.lists.proofs.ListLaws.{filter-leave, without-absent, times-filter, filter-no, passes, first-passes}
 use Rattle.tables.specs.declared.State.{State}
 use Rattle.tables.specs.declared.State.the-variants.{Free}
@@ -46,11 +46,10 @@ priority-kept t p st x = go (t .processes) p x
 
 module _ (t : Tables) (p : ℕ) (y : Process) (test : State → Bool) (hp : p < length (t .processes)) (h : test (y .state) ≡ false) where
   test-leave : (x : ℕ) → test (stateOf (withProcess t p y) x) ≡ (test (stateOf t x) && not (eqb x p))
-  test-leave x = go (eqb x p) refl
-    where
-      go : (b : Bool) → eqb x p ≡ b → test (stateOf (withProcess t p y) x) ≡ (test (stateOf t x) && not b)
-      go true e = rw (eqb-true x p e) (ap (λ (r : Process). test (r .state)) (at-same t p y hp) ∙ h ∙ sym (and-false (test (stateOf t p))))
-      go false e = ap (λ (r : Process). test (r .state)) (at-other t p y x (eqb-false x p e)) ∙ sym (and-true (test (stateOf t x)))
+  test-leave x =
+      either x p
+      (λ e. rw (e, eq-eqb p p refl) (ap (λ (r : Process). test (r .state)) (at-same t p y hp) ∙ h ∙ sym (and-false (test (stateOf t p)))))
+      (λ d. rw (ne-eqb x p d) (ap (λ (r : Process). test (r .state)) (at-other t p y x d) ∙ sym (and-true (test (stateOf t x)))))
 
   pub line-leave : line (withProcess t p y) test ≡ without p (line t test)
   unfolding line
@@ -122,7 +121,7 @@ module _ {t : Tables} (l : Laid t) where
   -- the same of a line that no free slot is in, for every number
   pub in-line-live : (p : ℕ) (test : State → Bool) → test Free ≡ false → times p (line t test) ≡ (if test (stateOf t p) then 1 else 0)
   unfolding line
-  in-line-live p test h = below? p processLimit (in-line p test) (λ k. times-filter p (λ x. test (stateOf t x)) (t .order) ∙ rw (past k))
-    where
-      past : processLimit ≤ p → test (stateOf t p) ≡ false
-      past k = let n : length (t .processes) ≡ processLimit = l .slots in ap (λ (r : Process). test (r .state)) (slot-past t p (omega arith)) ∙ h
+  in-line-live p test h =
+      let n = l .slots in
+      below? p processLimit (in-line p test)
+      (λ k. times-filter p (λ x. test (stateOf t x)) (t .order) ∙ rw (ap (λ (r : Process). test (r .state)) (slot-past t p (omega arith)) ∙ h))

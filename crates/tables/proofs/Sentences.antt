@@ -18,12 +18,13 @@ use Rattle.tables.specs.Sound.{Running, Sound, Sentences}
 use Rattle.tables.proofs.States.{is-current, waits-on}
 use Rattle.tables.proofs.LineLaws.{line-first, line-passes, live-below, live-once, used-below, in-line-live}
 
+waiter-once : {t : Tables} → Sound t → (p s : ℕ) → stateOf t p ≡ Waiting s → times p (queue t s) ≡ 1
+waiter-once S p s h = in-line-live (S .laid) p (waitsOn s) refl ∙ rw (h, eq-eqb s s refl)
+
 -- whoever waits, waits on a used semaphore: on another the count is 0, and with that goes no queue
 pub waiter-used : {t : Tables} → Sound t → (p s : ℕ) → stateOf t p ≡ Waiting s → isUsed t s ≡ true
-waiter-used {t} S p s h = split (isUsed t s) (λ e. e) (λ e. absurd (times-empty p (queue t s) once (rw (S .queued .unused s e) at (S .queued .counted s))))
-  where
-    once : times p (queue t s) ≡ 1
-    once = in-line-live (S .laid) p (waitsOn s) refl ∙ rw (h, eq-eqb s s refl)
+waiter-used {t} S p s h =
+    split (isUsed t s) (λ e. e) (λ e. absurd (times-empty p (queue t s) (waiter-once S p s h) (rw (S .queued .unused s e) at (S .queued .counted s))))
 
 pub waiter-below : {t : Tables} → Sound t → (p s : ℕ) → stateOf t p ≡ Waiting s → s < semaphoreLimit
 waiter-below S p s h = used-below (S .laid) s (waiter-used S p s h)
@@ -32,7 +33,7 @@ pub sentences : {t : Tables} → Sound t → Sentences t
 sentences {t} S =
     record {
       readyOnce = λ p. in-line-live (S .laid) p isReady refl;
-      queuedOnce = λ p s h. in-line-live (S .laid) p (waitsOn s) refl ∙ rw (h, eq-eqb s s refl);
+      queuedOnce = waiter-once S;
       queuedOnly = λ p s h. waits-on (stateOf t p) s (line-passes t (waitsOn s) p h);
       waitsUsed = waiter-used S;
       noQueue = λ s e. rw (S .queued .unused s e) at (S .queued .counted s);

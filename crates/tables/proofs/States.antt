@@ -1,9 +1,10 @@
 -- A state that passes a test is the state that the test names. Assumes nothing.
 use Prim.Native.Nat.{ℕ}
-use mathlib.Core.Bool.{Bool, true, false, _||_, false≢true}
+use mathlib.Core.Bool.{true, false, _||_, false≢true}
 use mathlib.Core.Option.{Option, none, some, Option·none-ne-some, Option·some-injective}
-use mathlib.Core.Path.{_≡_, refl, sym, ap, _∙_}
+use mathlib.Core.Path.{_≡_, refl, ap}
 use borrow.Author.Tests.{eqb-true}
+use Rattle.lists.proofs.Bools.{split}
 use Rattle.tables.specs.declared.State.{State}
 use Rattle.tables.specs.declared.State.the-variants.{Free, Current, Ready, Suspended, Waiting}
 use Rattle.tables.specs.States.{isFree, isCurrent, isReady, isSuspended, awaits, isThe, waitsOn}
@@ -52,30 +53,8 @@ waits-on st s h = awaits-some st s (go (awaits st) h)
 
 -- what follows
 
-pub ready-live : (st : State) → isReady st ≡ true → isFree st ≡ false
-ready-live st h = ap isFree (is-ready st h)
-
-pub ready-no-waiter : (st : State) (s : ℕ) → isReady st ≡ true → waitsOn s st ≡ false
-ready-no-waiter st s h = ap (waitsOn s) (is-ready st h)
-
-pub current-live : (st : State) → isCurrent st ≡ true → isFree st ≡ false
-current-live st h = ap isFree (is-current st h)
-
-pub current-no-waiter : (st : State) (s : ℕ) → isCurrent st ≡ true → waitsOn s st ≡ false
-current-no-waiter st s h = ap (waitsOn s) (is-current st h)
-
 pub runs-no-waiter : (st : State) (s : ℕ) → (isReady st || isCurrent st) ≡ true → waitsOn s st ≡ false
-runs-no-waiter st s h = go (isReady st) refl
-  where
-    go : (b : Bool) → isReady st ≡ b → waitsOn s st ≡ false
-    go true e = ready-no-waiter st s e
-    go false e = current-no-waiter st s (sym (ap (λ (b : Bool). b || isCurrent st) e) ∙ h)
+runs-no-waiter st s h = split (isReady st) (λ e. ap (waitsOn s) (is-ready st e)) (λ e. ap (waitsOn s) (is-current st (rw e at h)))
 
 pub free-not-current : (st : State) → isFree st ≡ true → isCurrent st ≡ false
 free-not-current st h = ap isCurrent (is-free st h)
-
-pub free-not-ready : (st : State) → isFree st ≡ true → isReady st ≡ false
-free-not-ready st h = ap isReady (is-free st h)
-
-pub free-no-waiter : (st : State) (s : ℕ) → isFree st ≡ true → waitsOn s st ≡ false
-free-no-waiter st s h = ap (waitsOn s) (is-free st h)

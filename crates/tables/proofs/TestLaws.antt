@@ -12,7 +12,7 @@ use lib.ListN.{length, getD}
 use borrow.Author.Tests.{eq-eqb, ne-eqb, lt-ltb, ltb-true, eqb-true}
 use Rattle.lists.specs.Lists.{if_then_else_, times, AtMost, Falling}
 use Rattle.lists.specs.Numbers.{all}
-use Rattle.lists.proofs.Bools.{either, below?, both, and-in}
+use Rattle.lists.proofs.Bools.{split, either, below?, both, and-in}
 use Rattle.lists.proofs.ListLaws.{length-empty}
 use Rattle.lists.proofs.FallingLaws.{atMost-member, atMost-all, falls-both, both-falls}
 use Rattle.lists.proofs.NumberLaws.{all-at, all-true}
@@ -83,12 +83,10 @@ pub of-row : (xs : List ℕ) → length xs ≡ processLimit → ((p : ℕ) → t
 unfolding onceEach
 of-row xs l h =
     and-in
-    (all-true processLimit (λ i. ltb (getD xs i 0) processLimit) (λ i k. inside (ltb (getD xs i 0) processLimit) (h (getD xs i 0)) (times-at xs i (omega arith))))
+    (all-true processLimit (λ i. ltb (getD xs i 0) processLimit)
+    (λ i k. split (ltb (getD xs i 0) processLimit) (λ e. e)
+    (λ e. let z : times (getD xs i 0) xs ≡ 0 = h (getD xs i 0) ∙ rw e in absurd (omega (arith, times-at xs i (omega arith))))))
     (all-true processLimit (λ p. eqb (times p xs) 1) (λ p k. eq-eqb (times p xs) 1 (h p ∙ rw (lt-ltb p processLimit k))))
-  where
-    inside : {n : ℕ} (b : Bool) → n ≡ (if b then 1 else 0) → 1 ≤ n → b ≡ true
-    inside true e k = refl
-    inside false e k = absurd (omega arith)
 
 -- Counts
 

@@ -1,14 +1,15 @@
 -- What only few calls change: the cursors, and the priorities. One law for all that a change of state, of the row and of a
 -- semaphore's entry keeps. Assumes nothing.
 use Prim.Native.Nat.{ℕ}
-use mathlib.Core.Bool.{Bool, true, false, true≢false}
+use mathlib.Core.Bool.{Bool, false, true≢false}
 use mathlib.Core.List.{List, [], _∷_}
 use mathlib.Core.Logic.{_≢_}
 use mathlib.Core.Option.{Option, none, some}
 use mathlib.Core.Path.{_≡_, refl, sym, ap, _∙_}
 use lib.Dec.{ltb}
 use lib.IntN.{ℤ, pos, negsuc, sucℤ, predℤ, natAbs}
-use Rattle.lists.specs.Lists.{if_then_else_, place, first}
+use Rattle.lists.specs.Lists.{place, first}
+use Rattle.lists.proofs.Bools.{split}
 use Rattle.tables.specs.declared.State.{State}
 use Rattle.tables.specs.declared.State.the-variants.{Current, Ready, Suspended, Waiting}
 use Rattle.tables.specs.declared.Process.{Process}
@@ -49,21 +50,15 @@ module _ {A : Type 0} {f : Tables → A} (k : Apart f) where
   unfolding reschedule switch
   reschedule-keeps t = go (readyList t) (currents t)
     where
-      on : (b : Bool) (c : ℕ) → f (if b then t else startFirst (makeReady t c) (readyList (makeReady t c))) ≡ f t
-      on true c = refl
-      on false c = start-keeps (makeReady t c) (readyList (makeReady t c)) ∙ joining-keeps t c _ Ready
-
       go : (r c : List ℕ) → f (switch t r c) ≡ f t
       go [] c = refl
       go (p ∷ ps) [] = start-keeps t (readyList t)
-      go (p ∷ ps) (c ∷ cs) = on (ltb (priorityOf t p) (priorityOf t c)) c
+      go (p ∷ ps) (c ∷ cs) =
+          split (ltb (priorityOf t p) (priorityOf t c)) (λ b. rw b)
+          (λ b. rw b (start-keeps (makeReady t c) (readyList (makeReady t c)) ∙ joining-keeps t c _ Ready))
 
   finish-keeps : (d : Deed) → f (finish d .tables) ≡ f (d .tables)
-  finish-keeps d = go (d .reschedules)
-    where
-      go : (b : Bool) → f (if b then reschedule (d .tables) else d .tables) ≡ f (d .tables)
-      go true = reschedule-keeps (d .tables)
-      go false = refl
+  finish-keeps d = split (d .reschedules) (λ b. rw b (reschedule-keeps (d .tables))) (λ b. rw b)
 
   -- every call keeps it that neither makes nor kills
   deed-keeps : (t : Tables) (c : Call) → ((a : ℤ) → c ≡ MakeSemaphore a → f (deed t (MakeSemaphore a) .tables) ≡ f t) → ((a : ℤ) → c ≡ MakeProcess a → f (deed t (MakeProcess a) .tables) ≡ f t)
@@ -101,12 +96,12 @@ kill-cursors t p (some s) = refl
 
 -- no call but a make moves a cursor
 pub cursors-kept : (t : Tables) (c : Call) → MakesNothing c → (step t c .tables .«next_semaphore» ≡ t .«next_semaphore») × (step t c .tables .«next_process» ≡ t .«next_process»)
-cursors-kept t c h = let e = whole in (ap (λ (x : ℕ × ℕ). x .0) e, ap (λ (x : ℕ × ℕ). x .1) e)
-  where
-    whole : cursors (step t c .tables) ≡ cursors t
-    whole =
-        step-keeps cursors-apart t c
-        (λ k. deed-keeps cursors-apart t c (λ a e. absurd (h .semaphore a e)) (λ a e. absurd (h .process a e)) (λ a e. kill-cursors t (natAbs a) (awaits (stateOf t (natAbs a)))))
+cursors-kept t c h =
+    let e : cursors (step t c .tables) ≡ cursors t =
+    step-keeps cursors-apart t c
+    (λ k. deed-keeps cursors-apart t c (λ a e. absurd (h .semaphore a e)) (λ a e. absurd (h .process a e))
+    (λ a e. kill-cursors t (natAbs a) (awaits (stateOf t (natAbs a))))) in
+    (ap (λ (x : ℕ × ℕ). x .0) e, ap (λ (x : ℕ × ℕ). x .1) e)
 
 -- The priority of a process
 
@@ -125,13 +120,10 @@ not-named limit call (negsuc p) x h n e = true≢false h
 
 -- no priority changes but by a make or a kill
 pub priority-stays : (t : Tables) (c : Call) (x : ℕ) → Spares t c x → priorityOf (step t c .tables) x ≡ priorityOf t x
-priority-stays t c x s = step-keeps (priority-apart x) t c (λ k. deed-keeps (priority-apart x) t c (λ a e. refl) (λ a e. slot (made a e)) (λ a e. slot (killed a e (rw e at k))))
-  where
-    slot : {y z : Process} → y ≡ z → y .priority ≡ z .priority
-    slot e = ap (λ (r : Process). r .priority) e
-
-    made : (a : ℤ) → c ≡ MakeProcess a → process (deed t (MakeProcess a) .tables) x ≡ process t x
-    made a e = at-other t (first (freeSlots t)) _ x (s .unmade a e)
-
-    killed : (a : ℤ) → c ≡ Kill a → Accepted t (Kill a) → process (deed t (Kill a) .tables) x ≡ process t x
-    killed a e k = kill-spares t (natAbs a) (awaits (stateOf t (natAbs a))) x (not-named processLimit Kill a x (k .0) (λ d. s .unkilled (e ∙ d)))
+priority-stays t c x s =
+    step-keeps (priority-apart x) t c
+    (λ k. deed-keeps (priority-apart x) t c (λ a e. refl)
+    (λ a e. ap (λ (r : Process). r .priority) (at-other t (first (freeSlots t)) _ x (s .unmade a e)))
+    (λ a e.
+    let other : x ≢ natAbs a = not-named processLimit Kill a x ((rw e at k) .0) (λ d. s .unkilled (e ∙ d)) in
+    ap (λ (r : Process). r .priority) (kill-spares t (natAbs a) (awaits (stateOf t (natAbs a))) x other)))

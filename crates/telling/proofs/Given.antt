@@ -55,16 +55,11 @@ pub given-3 : (a : ℤ) → Exactly (noCount a) (countBelow0 a)
 given-3 a = (refl, tests-below0 a)
 
 pub given-4 : {t : Tables} → Sound t → Exactly (4 when isEmpty (freeSemaphores t)) (allUsed t)
-given-4 {t} S = (refl, (λ e s l. not-false (isUsed t s) (none-found unused semaphoreLimit from k e s l), λ u. found-none unused semaphoreLimit from k (λ s l. ap not (u s l))))
-  where
-    unused : ℕ → Bool
-    unused s = not (isUsed t s)
-
-    from : ℕ
-    from = t .«next_semaphore»
-
-    k : from < semaphoreLimit
-    k = S .laid .cursors .0
+given-4 {t} S =
+    let unused : ℕ → Bool = λ s. not (isUsed t s) in
+    let from : ℕ = t .«next_semaphore» in
+    let k : from < semaphoreLimit = S .laid .cursors .0 in
+    (refl, (λ e s l. not-false (isUsed t s) (none-found unused semaphoreLimit from k e s l), λ u. found-none unused semaphoreLimit from k (λ s l. ap not (u s l))))
 
 -- of counts of 32 bits
 pub given-5 : (t : Tables) (a : ℤ) → SFits w32 (countOf t (natAbs a)) → Exactly (5 when leZ largest (countOf t (natAbs a))) (countLargest t a)
@@ -82,25 +77,15 @@ given-7 t a = (refl, (is-free (stateOf t (natAbs a)), ap isFree))
 
 -- slot 0, where the search may begin, is never free
 pub given-8 : {t : Tables} → Sound t → Exactly (8 when isEmpty (freeSlots t)) (allLive t)
-given-8 {t} S = (refl, (λ e p b l f. true≢false (sym (ap isFree f) ∙ none-found free processLimit from k e p l), λ n. found-none free processLimit from k (live n)))
-  where
-    free : ℕ → Bool
-    free p = isFree (stateOf t p)
-
-    from : ℕ
-    from = t .«next_process»
-
-    k : from < processLimit
-    k = S .laid .cursors .1
-
-    zero-live : stateOf t 0 ≢ Free
-    zero-live e = true≢false (sym (S .running .zero) ∙ ap (λ (st : State). isCurrent st || isReady st) e)
-
-    live : allLive t .holds → (p : ℕ) → p < processLimit → free p ≡ false
-    live n p l =
-        split (free p)
-        (λ e. let f : stateOf t p ≡ Free = is-free (stateOf t p) e in absurd (either p 0 (λ z. zero-live (rw z at f)) (λ z. n p (omega arith) l f)))
-        (λ e. e)
+given-8 {t} S =
+    let free : ℕ → Bool = λ p. isFree (stateOf t p) in
+    let from : ℕ = t .«next_process» in
+    let k : from < processLimit = S .laid .cursors .1 in
+    let zero-live : stateOf t 0 ≢ Free = λ e. true≢false (sym (S .running .zero) ∙ ap (λ (st : State). isCurrent st || isReady st) e) in
+    let live : allLive t .holds → (p : ℕ) → p < processLimit → free p ≡ false = λ n p l. split (free p)
+    (λ e. let f : stateOf t p ≡ Free = is-free (stateOf t p) e in absurd (either p 0 (λ z. zero-live (rw z at f)) (λ z. n p (omega arith) l f)))
+    (λ e. e) in
+    (refl, (λ e p b l f. true≢false (sym (ap isFree f) ∙ none-found free processLimit from k e p l), λ n. found-none free processLimit from k (live n)))
 
 pub given-9-resume : (t : Tables) (a : ℤ) → Exactly (9 when not (isSuspended (stateOf t (natAbs a)))) (notSuspended t a)
 given-9-resume t a = let st = stateOf t (natAbs a) in (refl, tests-not (isSuspended st) (is-suspended st, ap isSuspended))

@@ -1,10 +1,10 @@
 -- Which call a number is, and what a refusal number says. Assumes nothing.
 use Prim.Native.Nat.{ℕ}
-use mathlib.Core.Bool.{true, Bool, false}
+use mathlib.Core.Bool.{true}
 use mathlib.Core.List.{List, _∷_, _++_, []}
 use mathlib.Core.Path.{_≡_, refl, ap, _∙_}
 use lib.IntN.{ℤ, pos, negsuc}
-use Rattle.lists.specs.Lists.{if_then_else_}
+use Rattle.lists.proofs.Bools.{split}
 use Rattle.tables.specs.declared.Tables.{Tables}
 use Rattle.rules.specs.declared.Answer.the-variants.{Refused}
 use Rattle.rules.specs.declared.Outcome.{Outcome}
@@ -44,11 +44,12 @@ refused-first t c before after n e h = ap (λ (cs : List Check). unless (λ m. r
 
 unless-only : (t : Tables) (cs : List Check) (o : Outcome) (n : ℕ) → (o .answer ≡ Refused n → ⊥) → unless (λ m. refused m t) cs o .answer ≡ Refused n → FirstHolds cs n
 unless-only t [] o n h e = absurd (h e)
-unless-only t (c ∷ cs) o n h e = go (c .holds) refl e (unless-only t cs o n h)
-  where
-    go : (b : Bool) → c .holds ≡ b → (if b then refused (c .number) t else unless (λ m. refused m t) cs o) .answer ≡ Refused n → (unless (λ m. refused m t) cs o .answer ≡ Refused n → FirstHolds cs n) → FirstHolds (c ∷ cs) n
-    go true d e ih = let k : c .number ≡ n = cc in record { before = []; after = cs; none = tt; found = rw (← k, ← d) }
-    go false d e ih = let r = ih e in record { before = c ∷ r .before; after = r .after; none = (d, r .none); found = ap (λ (l : List Check). c ∷ l) (r .found) }
+unless-only t (c ∷ cs) o n h e =
+    split (c .holds)
+    (λ d. let given = rw d at e in let k : c .number ≡ n = cc in record { before = []; after = cs; none = tt; found = rw (← k, ← d) })
+    (λ d.
+    let r = unless-only t cs o n h (rw d at e) in
+    record { before = c ∷ r .before; after = r .after; none = (d, r .none); found = ap (λ (l : List Check). c ∷ l) (r .found) })
 
 -- and a refusal number is given by such a check only
 pub refused-only : (t : Tables) (c : Call) (n : ℕ) → step t c .answer ≡ Refused n → FirstHolds (checks t c) n

@@ -1,13 +1,14 @@
 -- The paper's rule of rescheduling, told of the ready list and of who is current. Assumes nothing.
-use Prim.Native.Nat.{ℕ, suc, _≤_, _<_}
+use Prim.Native.Nat.{ℕ, _≤_, _<_}
 use native.Mathlib.Omega.{arith}
-use mathlib.Core.Bool.{Bool, true, false}
+use mathlib.Core.Bool.{false}
 use mathlib.Core.List.{List, [], _∷_}
 use mathlib.Core.Path.{_≡_, refl, ap, _∙_}
 use lib.Dec.{eqb, ltb}
 use borrow.Author.Tests.{lt-ltb, le-ltb, ltb-true, ltb-false, eqb-true}
-use Rattle.lists.specs.Lists.{if_then_else_, putBefore, times, Falling}
+use Rattle.lists.specs.Lists.{putBefore, times, Falling}
 use Rattle.lists.proofs.FallingLaws.{atMost-member}
+use Rattle.lists.proofs.Bools.{split}
 use Rattle.tables.specs.declared.Tables.{Tables}
 use Rattle.tables.specs.Limits.{processLimit}
 use Rattle.tables.specs.States.{isReady}
@@ -21,28 +22,23 @@ use Rattle.telling.proofs.Seats.{ready-behind, seats-reschedule, reseat
 pub behind-put : (rank : ℕ → ℕ) (p : ℕ) (xs : List ℕ) → Falling rank xs → PutBehind rank p xs (behind rank p xs)
 unfolding putBefore times
 behind-put rank p [] f = record { front = []; back = []; was = refl; is = refl; higher = λ x h. absurd (omega arith); lower = λ x h. absurd (omega arith) }
-behind-put rank p (x ∷ xs) f = go (ltb (rank x) (rank p)) refl (behind-put rank p xs (f .1))
-  where
-    at-most : (y : ℕ) → 1 ≤ times y (x ∷ xs) → rank y ≤ rank x
-    at-most y h = atMost-member rank (rank x) (x ∷ xs) y (omega arith, f .0) h
-
-    here-or : (b : Bool) (y : ℕ) (ys : List ℕ) → eqb x y ≡ b → 1 ≤ (if b then suc (times y ys) else times y ys) → (1 ≤ times y ys → rank p ≤ rank y) → rank p ≤ rank x → rank p ≤ rank y
-    here-or true y ys e h k l = rw (eqb-true x y e) at l
-    here-or false y ys e h k l = k h
-
-    go : (b : Bool) → ltb (rank x) (rank p) ≡ b → PutBehind rank p xs (behind rank p xs) → PutBehind rank p (x ∷ xs) (if b then p ∷ x ∷ xs else x ∷ behind rank p xs)
-    go true e r =
-        let k : rank x < rank p = ltb-true (rank x) (rank p) e in
-        record { front = []; back = x ∷ xs; was = refl; is = refl; higher = λ y h. absurd (omega arith); lower = λ y h. let m : rank y ≤ rank x = at-most y h in omega arith }
-    go false e r =
-        record {
-          front = x ∷ r .front;
-          back = r .back;
-          was = ap (λ (l : List ℕ). x ∷ l) (r .was);
-          is = ap (λ (l : List ℕ). x ∷ l) (r .is);
-          higher = λ y h. here-or (eqb x y) y (r .front) refl h (r .higher y) (ltb-false (rank x) (rank p) e);
-          lower = r .lower;
-        }
+behind-put rank p (x ∷ xs) f =
+    split (ltb (rank x) (rank p))
+    (λ e.
+    let k : rank x < rank p = ltb-true (rank x) (rank p) e in
+    let at-most : (y : ℕ) → 1 ≤ times y (x ∷ xs) → rank y ≤ rank x = λ y h. atMost-member rank (rank x) (x ∷ xs) y (omega arith, f .0) h in
+    rw e (record { front = []; back = x ∷ xs; was = refl; is = refl; higher = λ y h. absurd (omega arith); lower = λ y h. let m = at-most y h in omega arith }))
+    (λ e.
+    let r = behind-put rank p xs (f .1) in
+    rw e
+    (record {
+      front = x ∷ r .front;
+      back = r .back;
+      was = ap (λ (l : List ℕ). x ∷ l) (r .was);
+      is = ap (λ (l : List ℕ). x ∷ l) (r .is);
+      higher = λ y h. split (eqb x y) (λ d. rw (eqb-true x y d) at (ltb-false (rank x) (rank p) e)) (λ d. r .higher y (rw d at h));
+      lower = r .lower;
+    }))
 
 -- a process put on the ready list goes behind every entry whose priority is equal or higher
 pub ready-put : {t : Tables} → Laid t → (p : ℕ) → p < processLimit → isReady (stateOf t p) ≡ false → PutBehind (priorityOf t) p (readyList t) (readyList (makeReady t p))

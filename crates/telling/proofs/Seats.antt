@@ -1,36 +1,35 @@
 -- What each step of a call does to the seats: who is ready, in order, and who runs. Assumes nothing.
 use Prim.Native.Nat.{ℕ, _≤_, _<_}
-use native.Mathlib.Omega.{arith}
-use mathlib.Core.Bool.{Bool, true, false, not, false≢true}
+use mathlib.Core.Bool.{true, false, not}
 use mathlib.Core.List.{List, [], _∷_}
 use mathlib.Core.Logic.{_≢_}
 use mathlib.Core.Path.{_≡_, refl, sym, ap, _∙_, fun-ext}
 use lib.Dec.{ltb}
-use lib.IntN.{ℤ, pos, negsuc}
-use lib.ListN.{length}
-use borrow.Author.Tests.{eq-eqb}
+use lib.IntN.{ℤ, pos}
+use lib.ListN.{length, drop}
 use Rattle.lists.specs.Lists.{if_then_else_, without, times, isEmpty, firstOr, first}
 use Rattle.lists.proofs.ListLaws.{without-only, one-or-none, without-first}
+use Rattle.lists.proofs.Bools.{split}
 use Rattle.tables.specs.declared.State.the-variants.{Current, Ready, Suspended, Waiting}
 use Rattle.tables.specs.declared.Process.{Process}
 use Rattle.tables.specs.declared.Semaphore.{Semaphore}
 use Rattle.tables.specs.declared.Tables.{Tables}
 use Rattle.tables.specs.Limits.{processLimit}
-use Rattle.tables.specs.States.{isFree, isCurrent, isReady, waitsOn}
+use Rattle.tables.specs.States.{isFree, isCurrent, isReady}
 use Rattle.tables.specs.Readers.{stateOf, priorityOf, isUsed, countOf, line, readyList, queue, currents, currentOf}
 use Rattle.tables.specs.Setters.{withCursors, withProcess, withSemaphore, withState, withCount}
-use Rattle.tables.specs.Sound.{Laid, Counted, Sound}
-use Rattle.tables.proofs.States.{is-current, is-ready, waits-on}
+use Rattle.tables.specs.Sound.{Laid, Sound}
+use Rattle.tables.proofs.States.{is-current, is-ready}
 use Rattle.tables.proofs.LineLaws.{line-leave, line-absent, line-first, live-below, live-slot, live-once, in-line}
 use Rattle.tables.proofs.Sentences.{current-only, current-is, current-below}
 use Rattle.rules.specs.Schedule.{makeReady, makeAllReady, makeWait, startFirst, switch, reschedule}
 use Rattle.rules.specs.Calls.{below0, switching, release, stop, finish}
 use Rattle.telling.specs.Telling.{Seats, seats, seated, behind, allBehind, headRuns, reseat, released}
-use Rattle.rules.proofs.Moves.{Turned, moved-slot, moved-join, turned-priority, ready-moved, laid-ready}
+use Rattle.rules.proofs.Moves.{Turned, moved-slot, moved-join, turned-priority, ready-moved, laid-ready, head-waits, head-below, head-leaves}
 use Rattle.rules.proofs.Joins.{ready-joined}
 use Rattle.rules.proofs.Resched.{line-kept, line-enter, Prepared}
 use Rattle.rules.proofs.Effects.{line-entry, laid-entry}
-use Rattle.rules.proofs.WaitSignal.{wait-prepared, signal-prepared}
+use Rattle.rules.proofs.WaitSignal.{wait-prepared, signal-prepared, first-waiter}
 use Rattle.rules.proofs.Release.{release-prepared}
 use Rattle.rules.proofs.Slots.{resume-prepared, yield-prepared}
 use Rattle.telling.proofs.Fields.{all-ready-keeps, priority-apart}
@@ -66,33 +65,21 @@ pub seats-makeAllReady : (s : ℕ) (q : List ℕ) {t : Tables} → Laid t → qu
 unfolding makeAllReady allBehind
 seats-makeAllReady s [] l e = refl
 seats-makeAllReady s (f ∷ fs) {t} l e =
-    seats-makeAllReady s fs (laid-ready l f below (ap isFree waits)) rest
+    let waits = head-waits l s f fs e in
+    let below = head-below l s f fs e in
+    let m = ready-moved l f below in
+    seats-makeAllReady s fs (laid-ready l f below (ap isFree waits)) (head-leaves l s f fs e)
     ∙ rw (fun-ext (turned-priority m), ready-behind l f below (ap isReady waits), line-kept m isCurrent refl (ap isCurrent waits))
-  where
-    waits : stateOf t f ≡ Waiting s
-    waits = waits-on (stateOf t f) s (line-first t (waitsOn s) f fs e)
-
-    below : f < processLimit
-    below = live-below l f (ap isFree waits)
-
-    m : Turned t (makeReady t f) f Ready
-    m = ready-moved l f below
-
-    rest : queue (makeReady t f) s ≡ fs
-    rest = m .leaves (waitsOn s) refl ∙ ap (without f) e ∙ without-first f fs (ap (times f) (sym e) ∙ in-line l f (waitsOn s) below ∙ rw (waits, eq-eqb s s refl))
 
 -- the current process comes to wait
 pub seats-makeWait : {t : Tables} → Sound t → (s : ℕ) (x : Semaphore) → seats (makeWait (withSemaphore t s x) (currentOf t) s) ≡ seated (readyList t) []
 seats-makeWait {t} S s x =
+    let l = laid-entry (S .laid) s x in
+    let m =
+    moved-join (withSemaphore t s x) (currentOf t) _ (Waiting s) (live-slot l (currentOf t) (current-below S)) (live-once l (currentOf t) (current-below S)) in
     seats-of
     (line-kept m isReady refl (ap isReady (current-is (S .running))) ∙ line-entry t s x isReady)
     (m .leaves isCurrent refl ∙ ap (without (currentOf t)) (line-entry t s x isCurrent ∙ current-only (S .running)) ∙ without-only (currentOf t))
-  where
-    l : Laid (withSemaphore t s x)
-    l = laid-entry (S .laid) s x
-
-    m : Turned (withSemaphore t s x) (makeWait (withSemaphore t s x) (currentOf t) s) (currentOf t) (Waiting s)
-    m = moved-join (withSemaphore t s x) (currentOf t) _ (Waiting s) (live-slot l (currentOf t) (current-below S)) (live-once l (currentOf t) (current-below S))
 
 -- Rescheduling
 
@@ -100,38 +87,27 @@ start-seats : {t : Tables} → Laid t → (r : List ℕ) → readyList t ≡ r �
 unfolding startFirst
 start-seats l [] e none = seats-of e none
 start-seats {t} l (f ∷ fs) e none =
+    let here : stateOf t f ≡ Ready = is-ready (stateOf t f) (line-first t isReady f fs e) in
+    let below : f < processLimit = live-below l f (ap isFree here) in
+    let m : Turned t (withState t f Current) f Current = moved-slot t f _ (live-slot l f below) in
     seats-of
     (m .leaves isReady refl ∙ ap (without f) e ∙ without-first f fs (ap (times f) (sym e) ∙ in-line l f isReady below ∙ rw here))
     (line-enter t f Current isCurrent m (live-once l f below) refl none)
-  where
-    here : stateOf t f ≡ Ready
-    here = is-ready (stateOf t f) (line-first t isReady f fs e)
-
-    below : f < processLimit
-    below = live-below l f (ap isFree here)
-
-    m : Turned t (withState t f Current) f Current
-    m = moved-slot t f _ (live-slot l f below)
 
 module _ {t : Tables} (l : Laid t) (few : length (currents t) ≤ 1) where
   by-cases : (r c : List ℕ) → readyList t ≡ r → currents t ≡ c → seats (switch t r c) ≡ reseat (priorityOf t) r c
   unfolding switch reseat
   by-cases [] cs e k = seats-of e k
   by-cases (f ∷ fs) [] e k = start-seats l (readyList t) refl k ∙ ap headRuns e
-  by-cases (f ∷ fs) (c ∷ cs) e k = go (ltb (priorityOf t f) (priorityOf t c))
-    where
-      here : stateOf t c ≡ Current
-      here = is-current (stateOf t c) (line-first t isCurrent c cs k)
-
-      below : c < processLimit
-      below = live-below l c (ap isFree here)
-
-      gone : currents (makeReady t c) ≡ []
-      gone = ready-moved l c below .leaves isCurrent refl ∙ ap (without c) (k ∙ ap (λ (r : List ℕ). c ∷ r) (one-or-none c cs (rw k at few))) ∙ without-only c
-
-      go : (b : Bool) → seats (if b then t else startFirst (makeReady t c) (readyList (makeReady t c))) ≡ (if b then seated (f ∷ fs) (c ∷ cs) else headRuns (behind (priorityOf t) c (f ∷ fs)))
-      go true = seats-of e k
-      go false = start-seats (laid-ready l c below (ap isFree here)) (readyList (makeReady t c)) refl gone ∙ ap headRuns (ready-behind l c below (ap isReady here) ∙ ap (behind (priorityOf t) c) e)
+  by-cases (f ∷ fs) (c ∷ cs) e k =
+      let here : stateOf t c ≡ Current = is-current (stateOf t c) (line-first t isCurrent c cs k) in
+      let below : c < processLimit = live-below l c (ap isFree here) in
+      let gone : currents (makeReady t c) ≡ [] =
+      ready-moved l c below .leaves isCurrent refl ∙ ap (without c) (k ∙ ap (λ (r : List ℕ). c ∷ r) (one-or-none c cs (rw k at few))) ∙ without-only c in
+      split (ltb (priorityOf t f) (priorityOf t c)) (λ b. rw b (seats-of e k))
+      (λ b. rw b
+      (start-seats (laid-ready l c below (ap isFree here)) (readyList (makeReady t c)) refl gone
+      ∙ ap headRuns (ready-behind l c below (ap isReady here) ∙ ap (behind (priorityOf t) c) e)))
 
   pub seats-reschedule : seats (reschedule t) ≡ reseat (priorityOf t) (readyList t) (currents t)
   unfolding reschedule
@@ -157,17 +133,14 @@ module _ {t : Tables} (S : Sound t) where
   pub seats-woken : (s : ℕ) → isUsed t s ≡ true → (c : ℤ) → below0 (countOf t s) ≡ true
       → seats (finish (switching (pos 1) (makeReady (withCount t s c) (first (queue t s)))) .tables) ≡ reseat (priorityOf t) (behind (priorityOf t) (first (queue t s)) (readyList t)) (currents t)
   unfolding firstOr line
-  seats-woken s hu c h = go (countOf t s) h (queue t s) refl (S .queued .counted s)
-    where
-      go : (k : ℤ) → below0 k ≡ true → (q : List ℕ) → queue t s ≡ q → Counted k q → seats (finish (switching (pos 1) (makeReady (withCount t s c) (first q))) .tables) ≡ reseat (priorityOf t) (behind (priorityOf t) (first q) (readyList t)) (currents t)
-      go (pos n) b q e d = absurd (false≢true b)
-      go (negsuc n) b [] e d = absurd (omega arith)
-      go (negsuc n) b (f ∷ fs) e d =
-          let l : Laid (withCount t s c) = laid-entry (S .laid) s _ in
-          let waits : stateOf t f ≡ Waiting s = waits-on (stateOf t f) s (line-first t (waitsOn s) f fs e) in
-          let below : f < processLimit = live-below (S .laid) f (ap isFree waits) in
-          switched _ _ (signal-prepared S s hu c f fs e) (seats-makeReady l f below (ap isReady waits) (ap isCurrent waits))
-          ∙ ap (λ (rank : ℕ → ℕ). reseat rank (behind (priorityOf t) f (readyList t)) (currents t)) (fun-ext (turned-priority (ready-moved l f below)))
+  seats-woken s hu c h =
+      let f : ℕ = first (queue t s) in
+      let e = first-waiter (countOf t s) (queue t s) h (S .queued .counted s) in
+      let l : Laid (withCount t s c) = laid-entry (S .laid) s _ in
+      let waits = head-waits (S .laid) s f (drop 1 (queue t s)) e in
+      let below = head-below (S .laid) s f (drop 1 (queue t s)) e in
+      switched _ _ (signal-prepared S s hu c f (drop 1 (queue t s)) e) (seats-makeReady l f below (ap isReady waits) (ap isCurrent waits))
+      ∙ ap (λ (rank : ℕ → ℕ). reseat rank (behind (priorityOf t) f (readyList t)) (currents t)) (fun-ext (turned-priority (ready-moved l f below)))
 
   -- a suspended process has become ready
   pub seats-resumed : (p : ℕ) → stateOf t p ≡ Suspended → (v : ℤ) → seats (finish (switching v (makeReady t p)) .tables) ≡ reseat (priorityOf t) (behind (priorityOf t) p (readyList t)) (currents t)

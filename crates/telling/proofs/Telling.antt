@@ -22,10 +22,9 @@ use Rattle.tables.proofs.Sentences.{current-only, current-unique}
 use Rattle.rules.specs.declared.Answer.the-variants.{Done}
 use Rattle.rules.specs.declared.Outcome.{Outcome}
 use Rattle.rules.specs.Calls.{Call, MakeSemaphore, MakeProcess, Suspend, Kill, outside, freeSemaphores, freeSlots, stop, uncounted, Accepted, deed, finish, step}
-use Rattle.rules.specs.Seen.{seen}
 use Rattle.telling.specs.Telling.{Seats, seats, Changes, Keeps}
 use Rattle.rules.proofs.Resched.{Settled, Prepared}
-use Rattle.rules.proofs.Effects.{Shows, Effect, settled-shows}
+use Rattle.rules.proofs.Effects.{Effect, settled-seen}
 use Rattle.rules.proofs.Slots.{suspend-prepared, free-prepared}
 use Rattle.rules.proofs.Found.{slot-found}
 use Rattle.rules.proofs.Refusals.{step-done}
@@ -34,17 +33,14 @@ use Rattle.telling.proofs.Seats.{seats-set}
 use Rattle.telling.proofs.Others.{slot-stopped}
 
 module _ {t : Tables} (S : Sound t) where
-  seen-here : {t′ : Tables} {s : ℕ} {u : Bool} {c : ℤ} {q : List ℕ} → Shows t′ s u c q → seen t′ s ≡ record { used = u; count = c; waiters = q }
-  seen-here w = rw (w .used, w .count, w .waiters)
-
   -- a call that changes how one semaphore is seen
   pub tell-changes : {o : Outcome} {v : ℤ} {s : ℕ} {u : Bool} {c : ℤ} {q : List ℕ} {y : Seats} (x : Call) → step t x ≡ o → o .answer ≡ Done v → Effect t (o .tables) s u c q → seats (o .tables) ≡ y
       → Changes t (step t x) v s (record { used = u; count = c; waiters = q }) y
-  tell-changes x e d E h = rw e (record { value = d; here = seen-here (E .here); elsewhere = λ r k. seen-here (E .elsewhere r k); seated = h })
+  tell-changes x e d E h = rw e (record { value = d; here = E .here; elsewhere = E .elsewhere; seated = h })
 
   -- one that changes none
   pub tell-keeps : {o : Outcome} {v : ℤ} {y : Seats} (x : Call) → step t x ≡ o → o .answer ≡ Done v → Settled t (o .tables) → seats (o .tables) ≡ y → Keeps t (step t x) v y
-  tell-keeps x e d g h = rw e (record { value = d; everywhere = λ r. seen-here (settled-shows g r); seated = h })
+  tell-keeps x e d g h = rw e (record { value = d; everywhere = settled-seen g; seated = h })
 
   pub only-current : (p : ℕ) → stateOf t p ≡ Current → currents t ≡ p ∷ []
   only-current p h = current-only (S .running) ∙ ap (λ (c : ℕ). c ∷ []) (current-unique S p (ap isCurrent h))
