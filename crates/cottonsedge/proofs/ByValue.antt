@@ -11,9 +11,9 @@ use Rattle.layout.specs.Bytes.{fromBytes, stateByte, toBytes}
 use Rattle.layout.specs.Offsets.{orderAt, statesAt}
 use Rattle.layout.specs.Stands.{Does, Held, Named, Stands}
 use Rattle.rules.specs.Answers.{refused}
-use Rattle.rules.specs.Enter.{enter, nobody, numbered}
+use Rattle.rules.specs.Enter.{enter, numbered}
 use Rattle.soundness.specs.Good.{good}
-use Rattle.tables.specs.Limits.{processLimit, semaphoreLimit}
+use Rattle.tables.specs.Limits.{nobody, processLimit, semaphoreLimit}
 use Rattle.tables.specs.Readers.{stateOf}
 use Rattle.tables.specs.Sound.{Sound}
 use Rattle.tables.specs.Test.{soundNow}

@@ -10,7 +10,7 @@ use mir.Val.{SFits, ofZ, toZ}
 use mir.ValLaws.{toZ-ofZ}
 use Rattle.layout.specs.Bytes.{fromBytes, toBytes, wellFormed}
 use Rattle.layout.specs.Stands.{Does, Stands}
-use Rattle.rules.specs.Enter.{enter, nobody, numbered}
+use Rattle.rules.specs.Enter.{enter, numbered}
 use Rattle.rules.specs.declared.Answer.the-variants.{Refused}
 use Rattle.rules.specs.declared.Outcome.{Outcome}
 use Rattle.soundness.specs.Good.{good}
