@@ -27,7 +27,8 @@ use Rattle.layout.proofs.Image.{byte-at, formed-place, formed-state, stands-is,
 use Rattle.layout.proofs.Regions.{place-byte, state-byte}
 use Rattle.lists.proofs.Bools.{below?, split}
 use Rattle.tables.proofs.TestLaws.{checked-sound, sound-checked}
-use Rattle.cottonsedge.proofs.Standing.{good-formed, good-sound, sound-good}
+use Rattle.soundness.proofs.GoodBytes.{good-formed, good-sound}
+use Rattle.cottonsedge.proofs.Standing.{sound-good}
 
 module _ (t : Tables) (n : ℕ) (a b : ℤ) (slots : length (t .processes) ≡ processLimit) (entries : length (t .semaphores) ≡ semaphoreLimit) (places : length (t .order) ≡ processLimit) (fits : CountsFit t) where
   pub value-unsound : good (toBytes t) ≡ false → record { outcome = refused 15 t; running = nobody } ≡ enter t n a b
