@@ -11,9 +11,9 @@ use Rattle.layout.specs.Bytes.{fromBytes, stateByte, toBytes}
 use Rattle.layout.specs.Offsets.{orderAt, statesAt}
 use Rattle.layout.specs.Stands.{Does, Held, Named, Stands}
 use Rattle.rules.specs.Answers.{refused}
-use Rattle.rules.specs.Enter.{enter, nobody, numbered}
+use Rattle.rules.specs.Enter.{enter, numbered}
 use Rattle.soundness.specs.Good.{good}
-use Rattle.tables.specs.Limits.{processLimit, semaphoreLimit}
+use Rattle.tables.specs.Limits.{nobody, processLimit, semaphoreLimit}
 use Rattle.tables.specs.Readers.{stateOf}
 use Rattle.tables.specs.Sound.{Sound}
 use Rattle.tables.specs.Test.{soundNow}
@@ -27,7 +27,8 @@ use Rattle.layout.proofs.Image.{byte-at, formed-place, formed-state, stands-is,
 use Rattle.layout.proofs.Regions.{place-byte, state-byte}
 use Rattle.lists.proofs.Bools.{below?, split}
 use Rattle.tables.proofs.TestLaws.{checked-sound, sound-checked}
-use Rattle.cottonsedge.proofs.Standing.{good-formed, good-sound, sound-good}
+use Rattle.soundness.proofs.GoodBytes.{good-formed, good-sound}
+use Rattle.cottonsedge.proofs.Standing.{sound-good}
 
 module _ (t : Tables) (n : ℕ) (a b : ℤ) (slots : length (t .processes) ≡ processLimit) (entries : length (t .semaphores) ≡ semaphoreLimit) (places : length (t .order) ≡ processLimit) (fits : CountsFit t) where
   pub value-unsound : good (toBytes t) ≡ false → record { outcome = refused 15 t; running = nobody } ≡ enter t n a b

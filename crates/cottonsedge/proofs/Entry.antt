@@ -10,10 +10,11 @@ use mir.Val.{SFits, ofZ, toZ}
 use mir.ValLaws.{toZ-ofZ}
 use Rattle.layout.specs.Bytes.{fromBytes, toBytes, wellFormed}
 use Rattle.layout.specs.Stands.{Does, Stands}
-use Rattle.rules.specs.Enter.{enter, nobody, numbered}
+use Rattle.rules.specs.Enter.{enter, numbered}
 use Rattle.rules.specs.declared.Answer.the-variants.{Refused}
 use Rattle.rules.specs.declared.Outcome.{Outcome}
 use Rattle.soundness.specs.Good.{good}
+use Rattle.tables.specs.Limits.{nobody}
 use Rattle.tables.specs.Readers.{currentOf}
 use Rattle.tables.specs.Test.{soundNow}
 use Rattle.tables.specs.declared.Tables.{Tables}
@@ -22,9 +23,9 @@ use Rattle.scheduling.specs.declared.step.Told.{Told}
 use Rattle.layout.proofs.Image.{bytes-back, same-bytes, stands-made, stands-read}
 use Rattle.lists.proofs.Bools.{split}
 use Rattle.rules.proofs.Numbers.{enter-sound, enter-unsound}
+use Rattle.soundness.proofs.GoodBytes.{good-formed, good-sound}
 use Rattle.cottonsedge.specs.Entries.{answerOf, bootAnswer, booted, bytesAfter, checkAnswer}
 use Rattle.cottonsedge.specs.Fields.{packed}
-use Rattle.cottonsedge.proofs.Standing.{good-formed, good-sound}
 
 -- Bytes that aren't good come back as they came, answered 15
 

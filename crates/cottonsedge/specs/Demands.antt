@@ -8,7 +8,7 @@ use lib.ListN.{getD}
 use Rattle.tables.specs.Limits.{processLimit}
 use Rattle.soundness.specs.Good.{good}
 use Rattle.layout.specs.Bytes.{fromBytes}
-use Rattle.rules.specs.Enter.{nobody}
+use Rattle.tables.specs.Limits.{nobody}
 use Rattle.telling.specs.Reasons.{Reason, _given_, numberedReasons}
 use Rattle.promises.specs.Record.{Request, ArgumentsFit}
 use Rattle.cottonsedge.specs.Fields.{answerEnd, refusalField, valueField, processField}

@@ -7,13 +7,13 @@ use mathlib.Core.List.{List}
 use mathlib.Core.Path.{_≡_}
 use Rattle.lists.specs.Lists.{if_then_else_}
 use Rattle.tables.specs.Boot.{boot}
-use Rattle.tables.specs.Readers.{currentOf}
+use Rattle.tables.specs.Limits.{nobody}
 use Rattle.layout.specs.Offsets.{size}
 use Rattle.layout.specs.Bytes.{toBytes, fromBytes, wellFormed}
 use Rattle.soundness.specs.Good.{good}
 use Rattle.rules.specs.declared.Answer.the-variants.{Refused}
 use Rattle.rules.specs.declared.Reply.{Reply}
-use Rattle.rules.specs.Enter.{nobody, enter}
+use Rattle.rules.specs.Enter.{enter}
 use Rattle.cottonsedge.specs.Fields.{packed}
 
 abbrev pub packedReply : Reply → ℕ
@@ -42,7 +42,3 @@ booted bs = if eqb (length bs) size then toBytes boot else bs
 -- the check
 unfoldable pub checkAnswer : List ℕ → ℕ
 checkAnswer bs = if good bs then 0 else 15
-
--- who runs, of sound tables
-unfoldable pub currentByte : List ℕ → ℕ
-currentByte bs = if good bs then currentOf (fromBytes bs) else nobody

@@ -6,9 +6,6 @@ ghost use mir.Syntax.{w32};
 ghost use mir.Val.{ofZ};
 ghost use Rattle.cottonsedge.specs.Fields.{joined, packed};
 
-// The running process that is told of tables that aren't sound.
-pub const UNKNOWN: u8 = 255;
-
 fn fields(refusal: u8, value: i32, process: u16) -> u64
     ensures { λ r. ⌜ r ≡ joined refusal (ofZ w32 value) process ⌝ }
 {

@@ -1,5 +1,4 @@
 // One call on typed tables, handed over and handed back: for callers in Rattle.
-use crate::answer::UNKNOWN;
 use kernel::enter;
 use layout::decode::decode;
 use layout::encode::encode;
@@ -7,8 +6,8 @@ use layout::offsets::SIZE;
 use rules::Answer;
 use rules::Outcome;
 use rules::Reply;
-use soundness::check::is_sound;
-use soundness::running::current;
+use soundness::check::current;
+use soundness::running::UNKNOWN;
 use tables::Tables;
 ghost use mathlib.Core.Path.{_≡_};
 ghost use Rattle.rules.specs.Enter.{enter};
@@ -18,7 +17,8 @@ pub fn call(tables: Tables, number: u8, a: i32, b: i32) -> Reply
 {
     let mut bytes = [0u8; SIZE];
     encode(&mut bytes, tables);
-    if !is_sound(&bytes) {
+    let c = current(&bytes);
+    if c == UNKNOWN {
         let refused = Outcome {
             tables,
             answer: Answer::Refused(15),
@@ -28,7 +28,6 @@ pub fn call(tables: Tables, number: u8, a: i32, b: i32) -> Reply
             running: UNKNOWN,
         };
     }
-    let c = current(&bytes) as u8;
     let told = enter::call(&mut bytes, c, number, a, b);
     let answer = told.answer;
     let left = decode(&bytes);

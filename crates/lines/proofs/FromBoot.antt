@@ -18,7 +18,8 @@ use Rattle.layout.specs.Offsets.{size}
 use Rattle.layout.specs.Bytes.{toBytes}
 use Rattle.rules.proofs.Kept.{sound-numbered}
 use Rattle.rules.proofs.Fits.{fits-boot, fits-numbered}
-use Rattle.cottonsedge.specs.Entries.{booted, currentByte}
+use Rattle.soundness.specs.Good.{currentByte}
+use Rattle.cottonsedge.specs.Entries.{booted}
 use Rattle.cottonsedge.specs.Fields.{packed}
 use Rattle.cottonsedge.proofs.Calls.{back, call-bytes, call-packed}
 use Rattle.cottonsedge.proofs.Standing.{sound-good}

@@ -6,7 +6,8 @@ use lib.ListN.{length, drop}
 use Rattle.lists.specs.Lists.{if_then_else_}
 use Rattle.rules.specs.declared.Answer.the-variants.{Refused}
 use Rattle.cottonsedge.specs.Fields.{packed}
-use Rattle.cottonsedge.specs.Entries.{answerOf, bytesAfter, currentByte}
+use Rattle.cottonsedge.specs.Entries.{answerOf, bytesAfter}
+use Rattle.soundness.specs.Good.{currentByte}
 use Rattle.lines.specs.declared.line.Line.{Line}
 use Rattle.lines.specs.declared.line.Line.the-variants.{Request, Wrong}
 use Rattle.lines.specs.Hex.{written}

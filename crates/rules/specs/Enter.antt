@@ -7,6 +7,7 @@ use mathlib.Core.List.{List, [], _∷_}
 use mathlib.Core.Option.{Option, none, some}
 use Rattle.lists.specs.Lists.{if_then_else_}
 use Rattle.tables.specs.declared.Tables.{Tables}
+use Rattle.tables.specs.Limits.{nobody}
 use Rattle.tables.specs.Readers.{currentOf}
 use Rattle.tables.specs.Test.{soundNow}
 use Rattle.rules.specs.declared.Outcome.{Outcome}
@@ -69,10 +70,6 @@ called t (some f) a b = unless (λ n. refused n t) ((14 when spare f a b) ∷ []
 -- a call on sound tables
 unfoldable pub numbered : Tables → ℕ → ℤ → ℤ → Outcome
 numbered t n a b = called t (formOf n) a b
-
--- the running process that is told of tables that aren't sound
-abbrev pub nobody : ℕ
-nobody = 255
 
 -- a call on any tables: those that aren't sound come back as they came
 unfoldable pub enter : Tables → ℕ → ℤ → ℤ → Reply

@@ -9,7 +9,7 @@ use lib.ListN.{drop, getD, length}
 use borrow.Author.Tests.{eq-eqb, ne-eqb}
 use Rattle.layout.specs.Bytes.{fromBytes}
 use Rattle.layout.specs.Offsets.{orderAt, prioritiesAt, statesAt}
-use Rattle.lists.specs.Lists.{falls, filter}
+use Rattle.lists.specs.Lists.{falls, filter, if_then_else_}
 use Rattle.tables.specs.Limits.{processLimit}
 use Rattle.tables.specs.Readers.{line, priorityOf, readyList, stateOf}
 use Rattle.tables.specs.States.{isReady}
@@ -93,3 +93,11 @@ module _ (bs : List ℕ) (named : (i : ℕ) → i < processLimit → getD bs (or
 
       pub key-some : 0 < latestOf last v
       key-some = either v 0 (λ e. rw (eq-eqb v 0 e) some) (λ d. rw (ne-eqb v 0 d) (omega arith))
+
+-- a key is a byte and one at the most
+pub key-byte : (bs : List ℕ) → ((i : ℕ) → getD bs i 0 < 256) → (p : ℕ) → keyOf bs p ≤ 256
+key-byte bs byte p = go (eqb (getD bs (statesAt + p) 0) 2)
+  where
+    go : (b : Bool) → (if b then getD bs (prioritiesAt + p) 0 + 1 else 0) ≤ 256
+    go true = let h = byte (prioritiesAt + p) in omega arith
+    go false = omega arith

@@ -5,3 +5,4 @@ pub mod FallingBytes
 pub mod LaidBytes
 pub mod Parts
 pub mod FormBytes
+pub mod GoodBytes

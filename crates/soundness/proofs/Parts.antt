@@ -1,5 +1,5 @@
 -- The check's parts, joined to the test of soundness. Assumes nothing.
-use Prim.Native.Nat.{_+_, _-_, _<_, _≤_, ℕ}
+use Prim.Native.Nat.{_*_, _+_, _-_, _<_, _≤_, ℕ}
 use native.Mathlib.Nat.{zero-add}
 use native.Mathlib.Omega.{arith}
 use mathlib.Core.Bool.{Bool, _&&_, _||_, and-true, false, true}
@@ -12,7 +12,7 @@ use Rattle.layout.specs.Bytes.{fromBytes, wellFormed}
 use Rattle.layout.specs.Offsets.{prioritiesAt}
 use Rattle.lists.specs.Lists.{falls, if_then_else_, sum}
 use Rattle.lists.specs.Numbers.{all, total}
-use Rattle.tables.specs.Limits.{priorityLimit, processLimit, semaphoreLimit}
+use Rattle.tables.specs.Limits.{nobody, priorityLimit, processLimit, semaphoreLimit}
 use Rattle.tables.specs.Readers.{currentOf, currents, line, priorityOf, process, queue, readyList, semaphore, stateOf}
 use Rattle.tables.specs.States.{isCurrent, isFree, isReady, waitsOn}
 use Rattle.tables.specs.Test.{semaphoresFit, nullFits, onceEach, readyFalls, semaphoreFits, shaped, slotFits, soundNow}
@@ -24,9 +24,10 @@ use Rattle.lists.proofs.NumberLaws.{all-at, all-ext}
 use Rattle.lists.proofs.Rows.{total-ext}
 use Rattle.tables.proofs.Lines.{current-inside, current-sum, line-many}
 use Rattle.soundness.specs.Laid.{laidClauses}
-use Rattle.soundness.specs.Tallies.{Tallied, countedFits, halfLimit, manyOf, sumOf}
+use Rattle.soundness.specs.Running.{runnerOf, soleOf, weightOf}
+use Rattle.soundness.specs.Tallies.{Tallied, countedFits, halfLimit, manyOf}
 use Rattle.soundness.proofs.StateBytes.{names-all, priority-said}
-use Rattle.soundness.proofs.Tally.{total-join}
+use Rattle.soundness.proofs.Tally.{numbers-light, total-join, weighed}
 
 and-group : (a b c d e f : Bool) → (a && (b && (c && (d && (e && f))))) ≡ ((a && (b && (c && (d && e)))) && f)
 and-group true true true true e f = refl
@@ -65,6 +66,9 @@ module _ (bs : List ℕ) (wf : wellFormed bs ≡ true) where
   pub unlaid : laidClauses t ≡ false → soundNow t ≡ false
   unlaid h = opened ∙ rw h
 
+  unsound : soundNow t ≡ false → nobody ≡ runnerOf t
+  unsound h = ap (λ (b : Bool). if b then currentOf t else nobody) (sym h)
+
   module _ (laid : laidClauses t ≡ true) where
     -- the slots of laid tables, and their row
     slots : (nullFits (process t 0) ≡ true) × (all processLimit (λ p. eqb p 0 || slotFits (process t p)) ≡ true) × (onceEach (t .order) ≡ true)
@@ -100,28 +104,71 @@ module _ (bs : List ℕ) (wf : wellFormed bs ≡ true) where
         all-ext semaphoreLimit (countedFits t many more) (λ s. semaphoreFits (semaphore t s) (length (queue t s)))
         (λ s k. ap (semaphoreFits (semaphore t s)) (halves t many more x y s k ∙ sym (many-said (waitsOn s))))
 
-    pub not-one : (n : ℕ) → n ≡ manyOf t isCurrent → (n ≡ 1 → ⊥) → soundNow t ≡ false
-    not-one n e h = opened ∙ rw (laid, ne-eqb (length (currents t)) 1 (λ k. h (e ∙ sym (many-said isCurrent) ∙ k)))
+    -- how many are current, and the sum of their numbers, by what they weigh
+    module _ (w : ℕ) (e : w ≡ weightOf t isCurrent) where
+      abbrev numbers : ℕ
+      numbers = total processLimit (λ p. if isCurrent (stateOf t p) then p else 0)
 
-    module _ (n : ℕ) (many : n ≡ manyOf t isCurrent) (is : n ≡ 1) (c : ℕ) (sum : c ≡ sumOf t isCurrent) where
-      one : length (currents t) ≡ 1
-      one = many-said isCurrent ∙ sym many ∙ is
+      weight : (w ≡ processLimit * length (currents t) + numbers) × (numbers ≤ 31 * length (currents t))
+      weight =
+          let f : ℕ → Bool = λ p. isCurrent (stateOf t p) in
+          rw (many-said isCurrent) (e ∙ weighed f processLimit, numbers-light f processLimit (omega arith))
 
-      current : c ≡ currentOf t
-      current = sum ∙ sym (current-sum t (order-long bs) row one)
+      alone : (length (currents t) ≡ 1 → ⊥) → nobody ≡ soleOf t
+      alone d = sym (rw (ne-eqb (length (currents t)) 1 d))
 
-      pub current-small : c < processLimit
-      current-small = subst (λ (p : ℕ). p < processLimit) (sym current) (current-inside t (order-long bs) row one)
+      pub none-sole : w < processLimit → nobody ≡ soleOf t
+      none-sole h = alone (λ k. let a = weight in omega arith)
 
-      top : getD bs (prioritiesAt + c) 0 + 1 - 1 ≡ priorityOf t (currentOf t)
-      top = omega arith ∙ sym (priority-said bs c current-small) ∙ ap (priorityOf t) current
+      pub many-sole : processLimit + processLimit ≤ w → nobody ≡ soleOf t
+      many-sole h = alone (λ k. let a = weight in omega arith)
 
-      falls-said : falls (priorityOf t) (getD bs (prioritiesAt + c) 0 + 1 - 1) (readyList t) ≡ readyFalls t
-      unfolding readyFalls
-      falls-said = ap (λ (p : ℕ). falls (priorityOf t) p (readyList t)) top
+      pub one-sole : processLimit ≤ w → w < processLimit + processLimit → w - processLimit ≡ soleOf t
+      one-sole a b =
+          let h = weight in
+          let one : length (currents t) ≡ 1 = omega arith in
+          let is : currentOf t ≡ numbers = current-sum t (order-long bs) row one in
+          omega arith ∙ sym is ∙ sym (rw (eq-eqb (length (currents t)) 1 one))
 
-      pub not-falling : (b : Bool) → b ≡ falls (priorityOf t) (getD bs (prioritiesAt + c) 0 + 1 - 1) (readyList t) → b ≡ false → soundNow t ≡ false
-      not-falling b e h = opened ∙ rw (laid, eq-eqb (length (currents t)) 1 one, sym falls-said ∙ sym e ∙ h)
+    module _ (c : ℕ) (e : c ≡ soleOf t) where
+      pub nobody-runs : c ≡ nobody → nobody ≡ runnerOf t
+      nobody-runs k = go (eqb (length (currents t)) 1) refl
+        where
+          go : (b : Bool) → eqb (length (currents t)) 1 ≡ b → nobody ≡ runnerOf t
+          go true q =
+              let small = current-inside t (order-long bs) row (eqb-true (length (currents t)) 1 q) in
+              let is : c ≡ currentOf t = e ∙ rw q in
+              absurd (omega arith)
+          go false q = unsound (opened ∙ ap (λ (b : Bool). laidClauses t && (b && (readyFalls t && semaphoresFit t))) q ∙ ap (λ (b : Bool). b && false) laid)
 
-      pub counts-left : (b : Bool) → b ≡ falls (priorityOf t) (getD bs (prioritiesAt + c) 0 + 1 - 1) (readyList t) → b ≡ true → semaphoresFit t ≡ soundNow t
-      counts-left b e h = sym (opened ∙ rw (laid, eq-eqb (length (currents t)) 1 one, sym falls-said ∙ sym e ∙ h))
+      module _ (some : c ≡ nobody → ⊥) where
+        found : (eqb (length (currents t)) 1 ≡ true) × (c ≡ currentOf t)
+        found = go (eqb (length (currents t)) 1) e
+          where
+            go : (b : Bool) → c ≡ (if b then currentOf t else nobody) → (b ≡ true) × (c ≡ currentOf t)
+            go true q = (refl, q)
+            go false q = absurd (some q)
+
+        pub current-small : c < processLimit
+        current-small = subst (λ (p : ℕ). p < processLimit) (sym (found .1)) (current-inside t (order-long bs) row (eqb-true (length (currents t)) 1 (found .0)))
+
+        top : getD bs (prioritiesAt + c) 0 + 1 - 1 ≡ priorityOf t (currentOf t)
+        top = omega arith ∙ sym (priority-said bs c current-small) ∙ ap (priorityOf t) (found .1)
+
+        -- the ready list falls as its walk says, and each count goes with its queue as the tallies say
+        module _ (b : Bool) (falling : b ≡ falls (priorityOf t) (getD bs (prioritiesAt + c) 0 + 1 - 1) (readyList t)) where
+          falls-said : readyFalls t ≡ b
+          unfolding readyFalls
+          falls-said = sym (falling ∙ ap (λ (p : ℕ). falls (priorityOf t) p (readyList t)) top)
+
+          left : (q : Bool) → semaphoresFit t ≡ q → soundNow t ≡ (b && q)
+          left q k = opened ∙ rw (laid, found .0, falls-said, k)
+
+          pub not-falling : b ≡ false → nobody ≡ runnerOf t
+          not-falling h = unsound (left (semaphoresFit t) refl ∙ ap (λ (x : Bool). x && semaphoresFit t) h)
+
+          pub not-fitting : b ≡ true → semaphoresFit t ≡ false → nobody ≡ runnerOf t
+          not-fitting h k = unsound (left false k ∙ ap (λ (x : Bool). x && false) h)
+
+          pub runs : b ≡ true → semaphoresFit t ≡ true → c ≡ runnerOf t
+          runs h k = found .1 ∙ ap (λ (x : Bool). if x then currentOf t else nobody) (sym (left true k ∙ ap (λ (x : Bool). x && true) h))

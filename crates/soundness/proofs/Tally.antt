@@ -51,6 +51,26 @@ module _ (bs : List ℕ) (w : ℕ → ℕ) (i n : ℕ) (h : i < processLimit) (e
 pub currents-small : (bs : List ℕ) (w : ℕ → ℕ) (i m : ℕ) → ((p : ℕ) → p < i → w p ≤ m) → tally (fromBytes bs) isCurrent w i ≤ i * m
 currents-small bs = sum-small (λ p. isCurrent (stateOf (fromBytes bs) p))
 
+-- each that passes adds k and its number: k for each, and the numbers
+pub weighed : (f : ℕ → Bool) (n : ℕ) → total n (λ p. if f p then processLimit + p else 0) ≡ processLimit * total n (λ p. if f p then 1 else 0) + total n (λ p. if f p then p else 0)
+unfolding total
+weighed f zero = omega arith
+weighed f (suc n) = go (f n) _ _ _ (weighed f n)
+  where
+    go : (b : Bool) (w m s : ℕ) → w ≡ processLimit * m + s → w + (if b then processLimit + n else 0) ≡ processLimit * (m + (if b then 1 else 0)) + (s + (if b then n else 0))
+    go true w m s e = omega arith
+    go false w m s e = omega arith
+
+-- and the numbers are below the limit
+pub numbers-light : (f : ℕ → Bool) (n : ℕ) → n ≤ processLimit → total n (λ p. if f p then p else 0) ≤ 31 * total n (λ p. if f p then 1 else 0)
+unfolding total
+numbers-light f zero h = omega arith
+numbers-light f (suc n) h = go (f n) _ _ (numbers-light f n (omega arith))
+  where
+    go : (b : Bool) (m s : ℕ) → s ≤ 31 * m → s + (if b then n else 0) ≤ 31 * (m + (if b then 1 else 0))
+    go true m s e = omega arith
+    go false m s e = omega arith
+
 -- a turn of a loop that fills an array
 pub filled-one : (f : ℕ → ℕ) (xs : List ℕ) (n v : ℕ) → n < length xs → ((k : ℕ) → k < n → getD xs k 0 ≡ f k) → v ≡ f n → (k : ℕ) → k < n + 1 → getD (set xs n v) k 0 ≡ f k
 filled-one f xs n v l so is k hk =

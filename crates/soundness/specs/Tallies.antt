@@ -23,10 +23,6 @@ tally t test w n = total n (λ p. if test (stateOf t p) then w p else 0)
 abbrev pub manyOf : Tables → (State → Bool) → ℕ
 manyOf t test = tally t test (λ p. 1) processLimit
 
--- the sum of their numbers
-abbrev pub sumOf : Tables → (State → Bool) → ℕ
-sumOf t test = tally t test (λ p. p) processLimit
-
 -- processes that a tally is of
 abbrev pub halfLimit : ℕ
 halfLimit = processLimit / 2

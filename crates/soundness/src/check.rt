@@ -4,8 +4,8 @@ use crate::form::well_formed;
 use crate::ready::keys;
 use crate::ready::ready_falls;
 use crate::row::once_each;
-use crate::running::current;
-use crate::running::currents;
+use crate::running::UNKNOWN;
+use crate::running::sole;
 use crate::slots::null_fits;
 use crate::slots::slots_fit;
 use crate::waiters::CELLS;
@@ -17,10 +17,10 @@ use layout::offsets::STATES;
 use tables::Tables;
 ghost use mathlib.Core.Path.{_≡_};
 ghost use mathlib.Core.Bool.{true};
-ghost use Rattle.tables.specs.Test.{semaphoresFit, soundNow};
 ghost use Rattle.layout.specs.Bytes.{fromBytes, wellFormed};
-ghost use Rattle.soundness.specs.Good.{good};
+ghost use Rattle.soundness.specs.Good.{currentByte, good};
 ghost use Rattle.soundness.specs.Laid.{laidClauses};
+ghost use Rattle.soundness.specs.Running.{runnerOf};
 
 // How the tables are laid: the cursors, the slots, the row.
 fn laid(bytes: &[u8]) -> bool
@@ -42,41 +42,43 @@ fn laid(bytes: &[u8]) -> bool
     once_each(bytes)
 }
 
-// Of laid tables: each count goes with its queue.
-fn queues_fit(bytes: &[u8]) -> bool
+// Of laid tables: who runs, or `UNKNOWN`. The waiters are tallied first: the cells, written one at a time, are read many at a time, and by then the writes are done.
+fn runner(bytes: &[u8]) -> u8
     requires { ⌜ (wellFormed (now bytes) ≡ true) × (laidClauses (fromBytes (now bytes)) ≡ true) ⌝ }
-    ensures { λ r. ⌜ r ≡ semaphoresFit (fromBytes (now (bytes .entry))) ⌝ }
+    ensures { λ r. ⌜ r ≡ runnerOf (fromBytes (now (bytes .entry))) ⌝ }
 {
     let mut many = [0u8; CELLS];
     let mut more = [0u8; CELLS];
     tally(&mut many, &mut more, bytes);
-    counts_fit(bytes, &many, &more)
+    let c = sole(bytes);
+    if c == UNKNOWN {
+        return UNKNOWN;
+    }
+    let k = keys(bytes);
+    if !ready_falls(bytes, &k, bytes[PRIORITIES + c as usize] as u32 + 1) {
+        return UNKNOWN;
+    }
+    if !counts_fit(bytes, &many, &more) {
+        return UNKNOWN;
+    }
+    c
 }
 
-// Of laid tables: who runs, and the queues.
-fn runs(bytes: &[u8]) -> bool
-    requires { ⌜ (wellFormed (now bytes) ≡ true) × (laidClauses (fromBytes (now bytes)) ≡ true) ⌝ }
-    ensures { λ r. ⌜ r ≡ soundNow (fromBytes (now (bytes .entry))) ⌝ }
+// The current process of sound tables; `UNKNOWN` of others.
+pub fn current(bytes: &[u8]) -> u8
+    ensures { λ r. ⌜ r ≡ currentByte (now (bytes .entry)) ⌝ }
 {
-    if currents(bytes) != 1 {
-        return false;
+    if !well_formed(bytes) {
+        return UNKNOWN;
     }
-    let c = current(bytes) as usize;
-    let k = keys(bytes);
-    if !ready_falls(bytes, &k, bytes[PRIORITIES + c] + 1) {
-        return false;
+    if !laid(bytes) {
+        return UNKNOWN;
     }
-    queues_fit(bytes)
+    runner(bytes)
 }
 
 pub fn is_sound(bytes: &[u8]) -> bool
     ensures { λ r. ⌜ r ≡ good (now (bytes .entry)) ⌝ }
 {
-    if !well_formed(bytes) {
-        return false;
-    }
-    if !laid(bytes) {
-        return false;
-    }
-    runs(bytes)
+    current(bytes) != UNKNOWN
 }

@@ -66,6 +66,9 @@ pub fn counts_fit(bytes: &[u8], many: &[u8; CELLS], more: &[u8; CELLS]) -> bool
     ensures { λ r. ⌜ r ≡ all semaphoreLimit (countedFits (fromBytes (now (bytes .entry))) (now (many .entry)) (now (more .entry))) ⌝ }
 {
     let x = smalls(bytes, 0);
+    if !block_fits(bytes, &x, many, more, 0) {
+        return false;
+    }
     let y = smalls(bytes, SECOND);
-    block_fits(bytes, &x, many, more, 0) & block_fits(bytes, &y, many, more, SECOND)
+    block_fits(bytes, &y, many, more, SECOND)
 }

@@ -37,8 +37,8 @@ pub fn keys(bytes: &[u8]) -> [u8; Tables::PROCESSES]
     k
 }
 
-// The key before the next one: that of the last ready process.
-fn latest(last: u8, v: u8) -> u8
+// The key before the next one: that of the last ready process. In words, which the machine chooses between without widening bytes first.
+fn latest(last: u32, v: u32) -> u32
     ensures { λ r. ⌜ r ≡ latestOf last v ⌝ }
 {
     if v == 0 {
@@ -48,14 +48,14 @@ fn latest(last: u8, v: u8) -> u8
 }
 
 // No key above `top`, nor above that of the ready process before it. Only unsound tables take the branch, so it is guessed right.
-pub fn ready_falls(bytes: &[u8], k: &[u8; Tables::PROCESSES], top: u8) -> bool
+pub fn ready_falls(bytes: &[u8], k: &[u8; Tables::PROCESSES], top: u32) -> bool
     requires { ⌜ (length (now bytes) ≡ size) × ((i : ℕ) → i < processLimit → getD (now bytes) (orderAt + i) 0 < processLimit) × ((p : ℕ) → p < processLimit → getD (now k) p 0 ≡ keyOf (now bytes) p) × (0 < top) ⌝ }
     ensures { λ r. ⌜ r ≡ falls (priorityOf (fromBytes (now (bytes .entry)))) (top - 1) (readyList (fromBytes (now (bytes .entry)))) ⌝ }
 {
     let mut last = top;
     for i in 0..Tables::PROCESSES {
         let p = bytes[ORDER + i] as usize;
-        let v = k[p];
+        let v = k[p] as u32;
         if last < v {
             return false;
         }

@@ -7,7 +7,7 @@ use borrow.Author.Needs.{needs}
 use Rattle.layout.specs.Offsets.{orderAt, size}
 use Rattle.tables.specs.Limits.{processLimit}
 use Rattle.soundness.proofs.ready.ready_falls.Statement.{statement}
-use Rattle.soundness.proofs.FallingBytes.{key-on, key-some, key-stop, left, left-all, left-none}
+use Rattle.soundness.proofs.FallingBytes.{key-byte, key-on, key-some, key-stop, left, left-all, left-none}
 use Rattle.soundness.proofs.ready.ready_falls.Tie as tie
 
 abbrev Inv-loop : tie.InvT-loop
@@ -34,6 +34,15 @@ element-copy-out-v c =
     let loop = c .before .before .loop in
     let hp : getD bs (orderAt + loop .i) 0 < processLimit = start .pre .1 (loop .i) (omega arith) in
     omega arith
+
+cast-v : tie.Need-cast-v Inv-loop μ-loop
+cast-v c =
+    let start = c .before .before .before .before .before in
+    let bs = start .args .bytes .now in
+    let i = c .before .before .before .loop .i in
+    let key = start .pre .2 (getD bs (orderAt + i) 0) (start .pre .1 i (omega arith)) in
+    let small = key-byte bs (λ n. c .before .shared-slice-known2 .given n .fits) (getD bs (orderAt + i) 0) in
+    record { fits = omega arith }
 
 returns : tie.Need-returns Inv-loop μ-loop
 returns c =
@@ -87,6 +96,7 @@ ready-falls-spec =
     (λ c. search needs)
     cast-p
     element-copy-out-v
+    cast-v
     returns
     (λ c κs. search needs)
     (λ c. search needs)

@@ -1,5 +1,5 @@
 -- The sum so far is that of the slots below i. Assumes nothing.
-use Prim.Native.Nat.{_-_, _≤_}
+use Prim.Native.Nat.{_+_, _-_, _≤_}
 use native.Mathlib.Omega.{arith}
 use mathlib.Core.Logic.{⊎-elim}
 use mathlib.Core.Path.{_∙_, _≡_, sym}
@@ -11,24 +11,24 @@ use Rattle.tables.specs.Limits.{processLimit}
 use Rattle.tables.specs.States.{isCurrent}
 use Rattle.lists.proofs.Rows.{total-none}
 use Rattle.soundness.specs.Tallies.{tally}
-use Rattle.soundness.proofs.running.currents.Statement.{statement}
+use Rattle.soundness.proofs.running.weight.Statement.{statement}
 use Rattle.soundness.proofs.Tally.{current-more, current-same, currents-small}
-use Rattle.soundness.proofs.running.currents.Tie as tie
+use Rattle.soundness.proofs.running.weight.Tie as tie
 
 abbrev Inv-loop : tie.InvT-loop
-Inv-loop bytes many₀ i₀ many i = (i ≤ processLimit) × (many ≡ tally (fromBytes bytes) isCurrent (λ p. 1) i) × (length bytes ≡ size)
+Inv-loop bytes sum₀ i₀ sum i = (i ≤ processLimit) × (sum ≡ tally (fromBytes bytes) isCurrent (λ p. processLimit + p) i) × (length bytes ≡ size)
 
 abbrev μ-loop : tie.MeasureT-loop
-μ-loop bytes many₀ i₀ many i = processLimit - i
+μ-loop bytes sum₀ i₀ sum i = processLimit - i
 
 loop-holds : tie.Need-loop-holds Inv-loop μ-loop
 loop-holds c = (search needs, sym (total-none _), search needs)
 
-add-many : tie.Need-add-many Inv-loop μ-loop
-add-many c =
+add-sum-2 : tie.Need-add-sum-2 Inv-loop μ-loop
+add-sum-2 c =
     let bs = c .before .before .before .before .args .bytes .now in
     let loop = c .before .before .before .loop in
-    let l = currents-small bs (λ p. 1) (loop .i) 1 (λ p h. omega arith) in
+    let l = currents-small bs (λ p. processLimit + p) (loop .i) 63 (λ p h. omega arith) in
     omega (arith, loop .inv .1)
 
 loop-again : tie.Need-loop-again Inv-loop μ-loop
@@ -36,8 +36,8 @@ loop-again c =
     let bs = c .before .before .before .before .args .bytes .now in
     let loop = c .before .before .before .loop in
     let i = loop .i in
-    let more = current-more bs (λ p. 1) i _ (omega arith) (loop .inv .1) in
-    let same = current-same bs (λ p. 1) i _ (omega arith) (loop .inv .1) in
+    let more = current-more bs (λ p. processLimit + p) i _ (omega arith) (loop .inv .1) in
+    let same = current-same bs (λ p. processLimit + p) i _ (omega arith) (loop .inv .1) in
     (search needs, ⊎-elim (λ w. w .1 ∙ more (w .0 .taken)) (λ w. w .1 ∙ same (w .0 .left)) (c .if1 .came), search needs)
 
 returns : tie.Need-returns Inv-loop μ-loop
@@ -45,8 +45,8 @@ returns c =
     let k : c .before .loop .i ≡ processLimit = omega arith in
     rw k at (c .before .loop .inv .1)
 
-pub currents-spec : {M : Type 1} → statement M
-currents-spec =
+pub weight-spec : {M : Type 1} → statement M
+weight-spec =
     tie.close
     (tie.spec
     Inv-loop
@@ -54,7 +54,9 @@ currents-spec =
     loop-holds
     (λ c. search needs)
     (λ c. search needs)
-    add-many
+    (λ c. search needs)
+    (λ c. search needs)
+    add-sum-2
     (λ c. search needs)
     (λ c. search needs)
     loop-again
