@@ -1,13 +1,13 @@
 // Reads lines of hexadecimal from standard input, runs each as a call from the boot tables on, and
 // writes an answer to each.
 use cottonsedge::boot::cottonsedge_boot;
+use feed::feed::Part;
+use feed::feed::ROOM;
+use feed::feed::feed;
+use feed::feed::finish;
 use layout::offsets::SIZE;
 use libc::STDIN_FILENO;
 use libc::STDOUT_FILENO;
-use lines::feed::Part;
-use lines::feed::ROOM;
-use lines::feed::feed;
-use lines::feed::finish;
 
 const CHUNK: usize = 4096;
 

@@ -7,7 +7,7 @@ use lib.ListN.{replicate}
 use Rattle.lines.specs.declared.line.Line.the-variants.{Request, Wrong}
 use Rattle.lines.specs.Hex.{digitOf, readOn, fieldOf, letterOf, written}
 use Rattle.lines.specs.Line.{lineOf}
-use Rattle.lines.specs.Answers.{linesOf, textOf}
+use Rattle.lines.specs.Answers.{textOf}
 
 zeros : ℕ → List ℕ
 zeros n = replicate n 48
@@ -57,8 +57,3 @@ count-below-zero = refl
 refused-ten : textOf 0x0affffffff1f ≡ 48 ∷ 97 ∷ replicate 8 102 ++ 49 ∷ 102 ∷ 10 ∷ []
 unfolding textOf written letterOf
 refused-ten = refl
-
--- no input has no line; a newline alone ends an empty one; a last line needs no newline
-lines-end : (linesOf [] ≡ []) × (linesOf (10 ∷ []) ≡ [] ∷ []) × (linesOf (65 ∷ 10 ∷ 66 ∷ []) ≡ (65 ∷ []) ∷ (66 ∷ []) ∷ []) × (linesOf (65 ∷ 10 ∷ []) ≡ (65 ∷ []) ∷ [])
-unfolding linesOf
-lines-end = (refl, refl, refl, refl)

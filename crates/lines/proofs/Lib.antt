@@ -1,9 +1,4 @@
 pub mod AnswerLaws
 pub mod Examples
-pub mod FeedLaws
-pub mod FromBoot
 pub mod HexLaws
 pub mod LineLaws
-pub mod PaperSession
-pub mod ServingLaws
-pub mod Whole

@@ -1,5 +1,4 @@
-// From the bench's input bytes to its answers: all but reading and writing.
+// One line of the bench: read as a call, answered, and its answer written.
 pub mod answer;
-pub mod feed;
 pub mod hex;
 pub mod line;

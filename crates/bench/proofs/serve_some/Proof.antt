@@ -3,7 +3,7 @@ use native.Mathlib.Omega.{arith}
 use mathlib.Core.Path.{sym, ap, _∙_}
 use lib.ListN.{length}
 use borrow.Author.Tests.{eq-eqb}
-use Rattle.lines.proofs.FeedLaws.{taken-all}
+use Rattle.feed.proofs.FeedLaws.{taken-all}
 use borrow.Author.Needs.{needs}
 use Rattle.bench.proofs.serve_some.Statement.{statement}
 use Rattle.bench.proofs.serve_some.Tie as tie

@@ -1,10 +1,10 @@
 -- A newline, or another character. Assumes nothing.
 use borrow.Author.Tests.{ne-eqb}
-use Rattle.lines.specs.Feed.{holding}
-use Rattle.lines.proofs.FeedLaws.{serves-other}
+use Rattle.feed.specs.Feed.{holding}
+use Rattle.feed.proofs.FeedLaws.{serves-other}
 use borrow.Author.Needs.{needs}
-use Rattle.lines.proofs.feed.feed_one.Statement.{statement}
-use Rattle.lines.proofs.feed.feed_one.Tie as tie
+use Rattle.feed.proofs.feed.feed_one.Statement.{statement}
+use Rattle.feed.proofs.feed.feed_one.Tie as tie
 
 returns : tie.Need-returns
 returns c = rw (c .before .before .before .before .before .before .before .if1 .taken) (c .before .before .before .before .end-line .ensures)

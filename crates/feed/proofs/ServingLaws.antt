@@ -10,12 +10,12 @@ use lib.Seq.{take-all, take-at, drop-at, drop-cons, drop-drop}
 use native.Mathlib.Nat.{min-eq-left}
 use borrow.Rule.Slice.PartMut.{midOf, putMid}
 use Rattle.lists.proofs.Bools.{split}
-use Rattle.lines.specs.declared.feed.Part.{Part}
-use Rattle.lines.specs.declared.feed.Fed.{Fed}
 use Rattle.lines.specs.Answers.{answerLength, newline, over}
-use Rattle.lines.specs.Feed.{Held, holding, heldNext, heldAfter, writtenNext, writtenOver, Serves}
 use Rattle.lines.proofs.AnswerLaws.{text-length}
-use Rattle.lines.proofs.FeedLaws.{written-one}
+use Rattle.feed.specs.declared.feed.Part.{Part}
+use Rattle.feed.specs.declared.feed.Fed.{Fed}
+use Rattle.feed.specs.Feed.{Held, holding, heldNext, heldAfter, writtenNext, writtenOver, Serves}
+use Rattle.feed.proofs.FeedLaws.{written-one}
 
 pub record Serving (h₀ : Held) (cs out₀ : List ℕ) (h : Held) (out : List ℕ) (at i : ℕ) : Type 0 where
   pub within : i ≤ length cs

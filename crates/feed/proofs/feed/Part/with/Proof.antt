@@ -1,8 +1,8 @@
 -- There is place for the character, or 19 are held already. Assumes nothing.
-use Rattle.lines.proofs.FeedLaws.{held-more, held-full}
+use Rattle.feed.proofs.FeedLaws.{held-more, held-full}
 use borrow.Author.Needs.{needs}
-use Rattle.lines.proofs.feed.Part.with.Statement.{statement}
-use Rattle.lines.proofs.feed.Part.with.Tie as tie
+use Rattle.feed.proofs.feed.Part.with.Statement.{statement}
+use Rattle.feed.proofs.feed.Part.with.Tie as tie
 
 returns : tie.Need-returns
 returns c =

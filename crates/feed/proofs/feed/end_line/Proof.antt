@@ -3,12 +3,12 @@ use Prim.Native.Nat.{_≤_}
 use native.Mathlib.Omega.{arith}
 use mathlib.Core.Path.{_≡_, sym, _∙_}
 use lib.ListN.{length, take, length-take}
-use Rattle.lines.specs.Feed.{Held, holding}
+use Rattle.feed.specs.Feed.{Held, holding}
 use native.Mathlib.Nat.{min-le-right, min-eq-left}
-use Rattle.lines.proofs.FeedLaws.{serves-newline, take-least}
+use Rattle.feed.proofs.FeedLaws.{serves-newline, take-least}
 use borrow.Author.Needs.{needs}
-use Rattle.lines.proofs.feed.end_line.Statement.{statement}
-use Rattle.lines.proofs.feed.end_line.Tie as tie
+use Rattle.feed.proofs.feed.end_line.Statement.{statement}
+use Rattle.feed.proofs.feed.end_line.Tie as tie
 
 long : (c : tie.Start) → length (c .args .part .bytes) ≡ 19
 long c = search needs

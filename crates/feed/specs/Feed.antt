@@ -5,10 +5,10 @@ use mathlib.Core.List.{List, [], _∷_, _++_}
 use lib.Dec.{eqb}
 use lib.ListN.{length, take}
 use Rattle.lists.specs.Lists.{if_then_else_, isEmpty}
-use Rattle.lines.specs.declared.feed.Part.{Part}
-use Rattle.lines.specs.declared.feed.Fed.{Fed}
 use Rattle.lines.specs.Line.{lineOf, lineLength}
 use Rattle.lines.specs.Answers.{answerLength, newline, answerTo, tablesAfter, textOf, over}
+use Rattle.feed.specs.declared.feed.Part.{Part}
+use Rattle.feed.specs.declared.feed.Fed.{Fed}
 
 pub record Held : Type 0 where
   pub tables : List ℕ

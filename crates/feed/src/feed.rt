@@ -1,14 +1,14 @@
 // The input in chunks that may break a line anywhere, in bounded memory.
-use crate::answer::ANSWER;
-use crate::answer::answer_line;
-use crate::answer::write_answer;
-use crate::line::LINE;
+use lines::answer::ANSWER;
+use lines::answer::answer_line;
+use lines::answer::write_answer;
+use lines::line::LINE;
 ghost use mathlib.Core.Path.{_≡_};
 ghost use Prim.Native.Nat.{_*_, _≤_, min};
 ghost use mathlib.Core.List.{[], _∷_};
 ghost use lib.ListN.{length};
 ghost use Rattle.lines.specs.Answers.{answerLength, newline};
-ghost use Rattle.lines.specs.Feed.{heldIn, holding, kept, ending, taken, Serves, Counts};
+ghost use Rattle.feed.specs.Feed.{heldIn, holding, kept, ending, taken, Serves, Counts};
 
 // One character more than a right line has, so that a longer one is known.
 const HELD: usize = LINE + 1;

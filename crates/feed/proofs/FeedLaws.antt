@@ -11,11 +11,11 @@ use lib.ListN.{length, take, set, length-append, length-take}
 use lib.Seq.{take-all, take-append-le, take-suc-set}
 use Rattle.lists.specs.Lists.{isEmpty}
 use Rattle.lists.proofs.Bools.{below?}
-use Rattle.lines.specs.declared.feed.Part.{Part}
 use Rattle.lines.specs.Line.{lineOf}
 use Rattle.lines.specs.Answers.{answerLength, newline, answerTo, tablesAfter, textOf, over}
-use Rattle.lines.specs.Feed.{Held, heldIn, kept, heldNext, heldAfter, writtenNext, writtenOver, ending, taken, Serves}
 use Rattle.lines.proofs.AnswerLaws.{text-length}
+use Rattle.feed.specs.declared.feed.Part.{Part}
+use Rattle.feed.specs.Feed.{Held, heldIn, kept, heldNext, heldAfter, writtenNext, writtenOver, ending, taken, Serves}
 
 -- the unfinished line
 

@@ -3,12 +3,12 @@ use Prim.Native.Nat.{_-_, _*_, _≤_}
 use native.Mathlib.Omega.{arith}
 use mathlib.Core.Path.{_≡_, refl, _∙_}
 use lib.ListN.{length}
 use Rattle.lines.specs.Answers.{answerLength}
-use Rattle.lines.specs.Feed.{holding}
-use Rattle.lines.proofs.ServingLaws.{Serving, serving-start, space-lent, serving-next, serving-end}
+use Rattle.feed.specs.Feed.{holding}
+use Rattle.feed.proofs.ServingLaws.{Serving, serving-start, space-lent, serving-next, serving-end}
 use borrow.Author.Needs.{needs}
-use Rattle.lines.proofs.feed.feed_all.Statement.{statement}
-use Rattle.lines.proofs.feed.feed_all.Tie as tie
+use Rattle.feed.proofs.feed.feed_all.Statement.{statement}
+use Rattle.feed.proofs.feed.feed_all.Tie as tie
 
 abbrev Inv-loop : tie.InvT-loop
 Inv-loop tables₀ chunk out₀ held₀ at₀ i₀ tables out held at i = (answerLength * length chunk ≤ length out₀) × (length tables ≡ length tables₀) × Serving (holding tables₀ held₀) chunk out₀ (holding tables held) out at i

@@ -10,11 +10,12 @@ use Rattle.layout.specs.Bytes.{toBytes}
 use Rattle.rules.specs.Schedule.{joining, makeAllReady, startFirst, switch, reschedule}
 use Rattle.rules.specs.Calls.{step}
 use Rattle.rules.specs.Enter.{numbered}
 use Rattle.lines.specs.Hex.{digitOf, readOn, fieldOf, letterOf, written}
 use Rattle.lines.specs.Line.{lineLength, lineOf}
-use Rattle.lines.specs.Answers.{newline, textOf, linesOf, answers}
-use Rattle.lines.specs.Ruled.{ruled}
-use Rattle.lines.proofs.FromBoot.{boot-ruled}
+use Rattle.lines.specs.Answers.{newline, textOf}
+use Rattle.feed.specs.Answers.{linesOf, answers}
+use Rattle.feed.specs.Ruled.{ruled}
+use Rattle.feed.proofs.FromBoot.{boot-ruled}
 
 -- the digits of each line, and of each answer, are those of a number
 pub typed : List ℕ → List ℕ

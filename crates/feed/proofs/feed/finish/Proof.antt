@@ -4,10 +4,10 @@ use native.Mathlib.Omega.{arith}
 use mathlib.Core.Path.{_≡_, sym}
 use lib.ListN.{length, length-take}
 use native.Mathlib.Nat.{min-eq-left}
-use Rattle.lines.proofs.FeedLaws.{ending-is}
+use Rattle.feed.proofs.FeedLaws.{ending-is}
 use borrow.Author.Needs.{needs}
-use Rattle.lines.proofs.feed.finish.Statement.{statement}
-use Rattle.lines.proofs.feed.finish.Tie as tie
+use Rattle.feed.proofs.feed.finish.Statement.{statement}
+use Rattle.feed.proofs.feed.finish.Tie as tie
 
 long : (c : tie.Start) → length (c .args .part .bytes) ≡ 19
 long c = search needs

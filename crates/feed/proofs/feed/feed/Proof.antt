@@ -3,14 +3,14 @@ use Prim.Native.Nat.{_/_}
 use native.Mathlib.Omega.{arith}
 use mathlib.Core.Path.{sym}
 use lib.ListN.{length}
 use Rattle.lines.specs.Answers.{answerLength}
-use Rattle.lines.specs.Feed.{taken}
+use Rattle.feed.specs.Feed.{taken}
 use native.Mathlib.Nat.{min-le-left, mul-div-le}
-use Rattle.lines.proofs.FeedLaws.{take-least, least-long}
-use Rattle.lines.proofs.Whole.{front-counts}
+use Rattle.feed.proofs.FeedLaws.{take-least, least-long}
+use Rattle.feed.proofs.Whole.{front-counts}
 use borrow.Author.Needs.{needs}
-use Rattle.lines.proofs.feed.feed.Statement.{statement}
-use Rattle.lines.proofs.feed.feed.Tie as tie
+use Rattle.feed.proofs.feed.feed.Statement.{statement}
+use Rattle.feed.proofs.feed.feed.Tie as tie
 
 slice-aggregate-feed-all : tie.Need-slice-aggregate-feed-all
 slice-aggregate-feed-all c =

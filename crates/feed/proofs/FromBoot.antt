@@ -23,17 +23,18 @@ use Rattle.cottonsedge.specs.Entries.{booted}
 use Rattle.cottonsedge.specs.Fields.{packed}
 use Rattle.cottonsedge.proofs.Calls.{back, call-bytes, call-packed}
 use Rattle.cottonsedge.proofs.Standing.{sound-good}
 use Rattle.lines.specs.declared.hex.Field.{Field}
 use Rattle.lines.specs.declared.hex.Field.the-variants.{Value, Wrong}
 use Rattle.lines.specs.declared.line.Line.{Line}
 use Rattle.lines.specs.declared.line.Line.the-variants.{Request, Wrong as WrongLine}
 use Rattle.lines.specs.Hex.{fieldOf}
 use Rattle.lines.specs.Line.{Below, lineLength, lineOf, requestOf}
-use Rattle.lines.specs.Answers.{answerTo, tablesAfter, linesOf, answersTo, answers}
-use Rattle.lines.specs.Chunks.{start, Session, joined}
-use Rattle.lines.specs.Ruled.{outcomeOf, ruled}
+use Rattle.lines.specs.Answers.{answerTo, tablesAfter}
 use Rattle.lines.proofs.HexLaws.{word-digits}
-use Rattle.lines.proofs.Whole.{bench-answered}
+use Rattle.feed.specs.Answers.{linesOf, answersTo, answers}
+use Rattle.feed.specs.Chunks.{start, Session, joined}
+use Rattle.feed.specs.Ruled.{outcomeOf, ruled}
+use Rattle.feed.proofs.Whole.{bench-answered}
 
 -- the arguments that a line names are signed numbers of 32 bits
 

@@ -2,8 +2,8 @@
 use Prim.Native.Nat.{ℕ}
 use mathlib.Core.List.{List, [], _∷_, _++_}
 use lib.ListN.{take}
-use Rattle.lines.specs.declared.feed.Fed.{Fed}
-use Rattle.lines.specs.Feed.{Held, holding, ending, Serves}
+use Rattle.feed.specs.declared.feed.Fed.{Fed}
+use Rattle.feed.specs.Feed.{Held, holding, ending, Serves}
 
 abbrev pub start : List ℕ → Held
 start bytes = record { tables = bytes; line = [] }

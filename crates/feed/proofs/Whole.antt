@@ -16,11 +16,12 @@ use Rattle.layout.specs.Offsets.{size}
 use Rattle.layout.specs.Bytes.{toBytes}
 use Rattle.cottonsedge.specs.Entries.{booted}
 use Rattle.cottonsedge.proofs.Sessions.{boot-bytes}
-use Rattle.lines.specs.declared.feed.Fed.{Fed}
 use Rattle.lines.specs.Line.{lineOf}
-use Rattle.lines.specs.Answers.{newline, answerTo, tablesAfter, textOf, before, linesOf, answersTo, answers, over}
-use Rattle.lines.specs.Feed.{Held, kept, heldNext, heldAfter, writtenNext, writtenOver, ending, Serves, Counts}
-use Rattle.lines.specs.Chunks.{start, Session, finished, fed-first, joined}
+use Rattle.lines.specs.Answers.{newline, answerTo, tablesAfter, textOf, over}
+use Rattle.feed.specs.declared.feed.Fed.{Fed}
+use Rattle.feed.specs.Answers.{before, linesOf, answersTo, answers}
+use Rattle.feed.specs.Feed.{Held, kept, heldNext, heldAfter, writtenNext, writtenOver, ending, Serves, Counts}
+use Rattle.feed.specs.Chunks.{start, Session, finished, fed-first, joined}
 
 -- some characters before the first of some lines
 abbrev begun : List ℕ → List (List ℕ) → List (List ℕ)

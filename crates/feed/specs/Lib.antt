@@ -1,0 +1,4 @@
+pub mod Answers
+pub mod Chunks
+pub mod Feed
+pub mod Ruled
