@@ -4,7 +4,7 @@ use processes::make_process::make_process;
 use processes::resume::resume;
 use processes::suspend::suspend;
 use processes::yields::yields;
-use scheduling::counts::is_zero;
+use rows::counts::is_zero;
 use scheduling::step::Step;
 use scheduling::step::Told;
 use scheduling::step::finish;

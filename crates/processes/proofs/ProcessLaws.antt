@@ -7,14 +7,14 @@ use lib.IntN.{pos, sucℤ, ℤ}
 use lib.ListN.{drop, length}
 use borrow.Author.Tests.{eq-eqb, lt-leb, ne-eqb}
 use Rattle.layout.specs.Stands.{Stands, Tells, Turns}
+use Rattle.rows.specs.Counts.{raise}
+use Rattle.rows.specs.Index.{indexBelow}
+use Rattle.rows.specs.declared.index.Index.the-variants.{At, Outside}
 use Rattle.rules.specs.Answers.{refused}
 use Rattle.rules.specs.Calls.{Call, Kill, Resume, Suspend, Yield, checks, noProcess, nullProcess, step}
 use Rattle.rules.specs.Schedule.{makeReady}
 use Rattle.rules.specs.declared.Outcome.{Outcome}
-use Rattle.scheduling.specs.Counts.{raise}
-use Rattle.scheduling.specs.Index.{indexBelow}
 use Rattle.scheduling.specs.Steps.{Leads, ended}
-use Rattle.scheduling.specs.declared.index.Index.the-variants.{At, Outside}
 use Rattle.scheduling.specs.declared.step.Step.the-variants.{Done, Refused, Switches}
 use Rattle.tables.specs.Limits.{processLimit, semaphoreLimit}
 use Rattle.tables.specs.Readers.{countOf, freeSlot, line, priorityOf, process, stateOf}
@@ -26,8 +26,8 @@ use Rattle.tables.specs.declared.State.{State}
 use Rattle.tables.specs.declared.State.the-variants.{Current, Free, Ready, Suspended, Waiting}
 use Rattle.tables.specs.declared.Tables.{Tables}
 use Rattle.layout.proofs.Compose.{with-told}
-use Rattle.scheduling.proofs.CountLaws.{raise-sound}
-use Rattle.scheduling.proofs.IndexLaws.{no-number, number}
+use Rattle.rows.proofs.CountLaws.{raise-sound}
+use Rattle.rows.proofs.IndexLaws.{no-number, number}
 use Rattle.scheduling.proofs.RunningLaws.{ready-still, slot-still, slot-stopped, still}
 use Rattle.scheduling.proofs.StepLaws.{checks-refuse, refuses}
 use Rattle.tables.proofs.LineLaws.{live-once, live-slot}

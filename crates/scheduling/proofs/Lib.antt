@@ -1,9 +1,3 @@
-pub mod CountLaws
-pub mod IndexLaws
-pub mod Found
-pub mod SearchLaws
-pub mod Moves
-pub mod Spots
 pub mod ScheduleLaws
 pub mod WaiterLaws
 pub mod RunningLaws

@@ -4,11 +4,11 @@ use mathlib.Core.List.{List}
 use lib.Dec.{ltb}
 use lib.ListN.{getD}
 use Rattle.lists.specs.Lists.{filter, if_then_else_}
+use Rattle.rows.specs.Row.{byByte}
 use Rattle.rules.specs.Schedule.{makeReady}
 use Rattle.tables.specs.Limits.{processLimit}
 use Rattle.tables.specs.Readers.{stateOf}
 use Rattle.tables.specs.declared.Tables.{Tables}
-use Rattle.scheduling.specs.Row.{byByte}
 
 -- who stands at place i, if the state is byte b
 abbrev pub marked : Tables → ℕ → ℕ → ℕ

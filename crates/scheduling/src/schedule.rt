@@ -1,12 +1,12 @@
 // Who joins the ready list or a queue, and who runs.
-use crate::row::NOBODY;
-use crate::row::find;
-use crate::row::reposition;
 use layout::fields::process;
 use layout::fields::put_state;
 use layout::offsets::STATES;
 use layout::state::CURRENT;
 use layout::state::READY;
+use rows::row::NOBODY;
+use rows::row::find;
+use rows::row::reposition;
 use tables::State;
 ghost use mathlib.Core.Path.{_≡_};
 ghost use Prim.Native.Nat.{_<_};

@@ -8,17 +8,17 @@ use Rattle.layout.specs.Offsets.{usedAt}
 use Rattle.layout.specs.Stands.{Tells, Turns}
 use Rattle.lists.specs.Lists.{firstOr, isEmpty}
 use Rattle.lists.specs.Numbers.{roundFrom}
+use Rattle.rows.specs.Search.{firstFree}
 use Rattle.rules.specs.Calls.{MakeSemaphore, below0, onePast, step}
-use Rattle.scheduling.specs.Search.{firstFree}
 use Rattle.scheduling.specs.Steps.{Leads}
 use Rattle.scheduling.specs.declared.step.Step.the-variants.{Done, Refused}
 use Rattle.tables.specs.Limits.{semaphoreLimit}
 use Rattle.tables.specs.Readers.{line}
 use Rattle.tables.specs.Setters.{withNextSemaphore, withSemaphore}
 use Rattle.tables.specs.declared.Tables.{Tables}
-use Rattle.scheduling.proofs.Found.{first-none, first-some}
+use Rattle.rows.proofs.Found.{first-none, first-some}
+use Rattle.rows.proofs.SearchLaws.{first-semaphore}
 use Rattle.scheduling.proofs.RunningLaws.{still}
-use Rattle.scheduling.proofs.SearchLaws.{first-semaphore}
 use Rattle.scheduling.proofs.StepLaws.{refuses}
 
 pub make-3 : (z : ℤ) (bs : List ℕ) → below0 z ≡ true → Leads (λ t. step t (MakeSemaphore z)) bs bs (Refused 3)

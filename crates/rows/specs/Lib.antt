@@ -1,0 +1,4 @@
+pub mod Index
+pub mod Counts
+pub mod Row
+pub mod Search
