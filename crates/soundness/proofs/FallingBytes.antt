@@ -16,8 +16,9 @@ use Rattle.tables.specs.States.{isReady}
 use Rattle.layout.proofs.Image.{order-long, place-said}
 use Rattle.lists.proofs.Bools.{either}
 use Rattle.lists.proofs.Walks.{falls-none, falls-on, falls-stop, filter-done, filter-in, filter-over}
+use Rattle.queues.proofs.Tally.{state-said}
 use Rattle.soundness.specs.Keys.{keyOf, latestOf}
-use Rattle.soundness.proofs.StateBytes.{priority-said, ready-byte, state-said}
+use Rattle.soundness.proofs.StateBytes.{priority-said, ready-byte}
 
 -- the ready ones of those in a row
 abbrev ready : List ℕ → List ℕ → List ℕ

@@ -1,6 +1,4 @@
-pub mod Tally
 pub mod StateBytes
-pub mod Squeezing
 pub mod FallingBytes
 pub mod LaidBytes
 pub mod Parts

@@ -1,5 +1,5 @@
 -- The check's parts, joined to the test of soundness. Assumes nothing.
-use Prim.Native.Nat.{_*_, _+_, _-_, _<_, _≤_, ℕ}
+use Prim.Native.Nat.{_*_, _+_, _-_, _<_, _≤_, suc, zero, ℕ}
 use native.Mathlib.Nat.{zero-add}
 use native.Mathlib.Omega.{arith}
 use mathlib.Core.Bool.{Bool, _&&_, _||_, and-true, false, true}
@@ -23,11 +23,11 @@ use Rattle.lists.proofs.Bools.{both, either}
 use Rattle.lists.proofs.NumberLaws.{all-at, all-ext}
 use Rattle.lists.proofs.Rows.{total-ext}
 use Rattle.tables.proofs.Lines.{current-inside, current-sum, line-many}
+use Rattle.queues.specs.Tallies.{Tallied, countedFits, halfLimit}
 use Rattle.soundness.specs.Laid.{laidClauses}
 use Rattle.soundness.specs.Running.{runnerOf, soleOf, weightOf}
-use Rattle.soundness.specs.Tallies.{Tallied, countedFits, halfLimit, manyOf}
+use Rattle.soundness.specs.Sums.{manyOf}
 use Rattle.soundness.proofs.StateBytes.{names-all, priority-said}
-use Rattle.soundness.proofs.Tally.{numbers-light, total-join, weighed}
 
 and-group : (a b c d e f : Bool) → (a && (b && (c && (d && (e && f))))) ≡ ((a && (b && (c && (d && e)))) && f)
 and-group true true true true e f = refl
@@ -39,6 +39,32 @@ and-group false b c d e f = refl
 slot-small : (free : Bool) (n : ℕ) → (if free then eqb n 0 else (ltb 0 n && leb n priorityLimit)) ≡ true → n ≤ priorityLimit
 slot-small true n h = let e = eqb-true n 0 h in omega arith
 slot-small false n h = leb-true n priorityLimit (both (ltb 0 n) _ h .1)
+
+-- each that passes adds k and its number: k for each, and the numbers
+weighed : (f : ℕ → Bool) (n : ℕ) → total n (λ p. if f p then processLimit + p else 0) ≡ processLimit * total n (λ p. if f p then 1 else 0) + total n (λ p. if f p then p else 0)
+unfolding total
+weighed f zero = omega arith
+weighed f (suc n) = go (f n) _ _ _ (weighed f n)
+  where
+    go : (b : Bool) (w m s : ℕ) → w ≡ processLimit * m + s → w + (if b then processLimit + n else 0) ≡ processLimit * (m + (if b then 1 else 0)) + (s + (if b then n else 0))
+    go true w m s e = omega arith
+    go false w m s e = omega arith
+
+-- and the numbers are below the limit
+numbers-light : (f : ℕ → Bool) (n : ℕ) → n ≤ processLimit → total n (λ p. if f p then p else 0) ≤ 31 * total n (λ p. if f p then 1 else 0)
+unfolding total
+numbers-light f zero h = omega arith
+numbers-light f (suc n) h = go (f n) _ _ (numbers-light f n (omega arith))
+  where
+    go : (b : Bool) (m s : ℕ) → s ≤ 31 * m → s + (if b then n else 0) ≤ 31 * (m + (if b then 1 else 0))
+    go true m s e = omega arith
+    go false m s e = omega arith
+
+-- a sum in two parts
+total-join : (w : ℕ → ℕ) (n m : ℕ) → total n w + total m (λ p. w (n + p)) ≡ total (n + m) w
+unfolding total
+total-join w n zero = let e : n + 0 ≡ n = omega arith in rw e (omega arith)
+total-join w n (suc m) = let ih = total-join w n m in let e : n + suc m ≡ suc (n + m) = omega arith in rw e (omega arith)
 
 -- the tallies of both halves are that of all
 halves : (t : Tables) (a b : List ℕ) → Tallied t 0 halfLimit a → Tallied t halfLimit halfLimit b → (s : ℕ) → s < semaphoreLimit → getD a s 0 + getD b s 0 ≡ manyOf t (waitsOn s)

@@ -1,35 +1,34 @@
--- Tests of a state, as tests of its byte. Assumes nothing.
-use Prim.Native.Nat.{_+_, _-_, _<_, _≤_, ℕ}
+-- Tests of a state, as tests of its byte, and the current processes added up so. Assumes nothing.
+use Prim.Native.Nat.{_*_, _+_, _-_, _<_, _≤_, ℕ}
 use native.Mathlib.Omega.{arith}
 use mathlib.Core.Bool.{Bool, false, true}
 use mathlib.Core.List.{List}
 use mathlib.Core.Path.{_∙_, _≡_, ap, refl, sym}
 use lib.Dec.{eqb}
 use lib.ListN.{getD}
-use borrow.Author.Tests.{le-ltb, lt-ltb, ne-eqb}
+use borrow.Author.Tests.{eq-eqb, lt-ltb, ne-eqb}
 use Rattle.layout.specs.Bytes.{byteState, fromBytes, wellFormed}
 use Rattle.layout.specs.Offsets.{prioritiesAt, statesAt}
 use Rattle.layout.specs.Stands.{Named}
-use Rattle.lists.specs.Numbers.{all}
+use Rattle.lists.specs.Lists.{if_then_else_}
+use Rattle.lists.specs.Numbers.{all, total}
 use Rattle.tables.specs.Limits.{processLimit, semaphoreLimit}
 use Rattle.tables.specs.Readers.{priorityOf, stateOf}
-use Rattle.tables.specs.States.{isCurrent, isFree, isReady, waitsOn}
+use Rattle.tables.specs.States.{isCurrent, isFree, isReady}
 use Rattle.tables.specs.Test.{namesSemaphore}
 use Rattle.tables.specs.declared.Process.{Process}
 use Rattle.tables.specs.declared.State.{State}
 use Rattle.tables.specs.declared.State.the-variants.{Current, Free, Ready, Suspended, Waiting}
 use Rattle.layout.proofs.Image.{formed-state, process-said, state-back}
 use Rattle.layout.proofs.Readers.{byte-waiting}
-use Rattle.lists.proofs.Bools.{below?, either}
+use Rattle.lists.proofs.Bools.{either}
 use Rattle.lists.proofs.NumberLaws.{all-true}
-use Rattle.soundness.specs.Tallies.{cellOf}
+use Rattle.lists.proofs.Rows.{total-at-most}
+use Rattle.queues.proofs.Tally.{state-said, sum-no, sum-yes}
+use Rattle.soundness.specs.Sums.{tally}
 
-module _ (bs : List ℕ) (p : ℕ) (h : p < processLimit) where
-  pub state-said : stateOf (fromBytes bs) p ≡ byteState (getD bs (statesAt + p) 0)
-  state-said = ap (λ (x : Process). x .state) (process-said bs p h)
-
-  pub priority-said : priorityOf (fromBytes bs) p ≡ getD bs (prioritiesAt + p) 0
-  priority-said = ap (λ (x : Process). x .priority) (process-said bs p h)
+pub priority-said : (bs : List ℕ) (p : ℕ) → p < processLimit → priorityOf (fromBytes bs) p ≡ getD bs (prioritiesAt + p) 0
+priority-said bs p h = ap (λ (x : Process). x .priority) (process-said bs p h)
 
 -- a test of the state is a test of the byte, if it is so for the four plain states and for any waiting one
 abbrev Agrees : (State → Bool) → ℕ → ℕ → Type 0
@@ -52,27 +51,6 @@ current-byte b = by-byte isCurrent 1 b refl refl refl refl (λ h. sym (ne-eqb b 
 pub ready-byte : (b : ℕ) → isReady (byteState b) ≡ eqb b 2
 ready-byte b = by-byte isReady 2 b refl refl refl refl (λ h. sym (ne-eqb b 2 (omega arith)))
 
-pub eqb-swap : (m n : ℕ) → eqb m n ≡ eqb n m
-eqb-swap m n = either m n (λ e. rw e refl) (λ d. ne-eqb m n d ∙ sym (ne-eqb n m (λ z. d (sym z))))
-
--- who waits is counted at the semaphore, and nobody else
-waits-byte : (b s i : ℕ) → s < semaphoreLimit → waitsOn s (byteState b) ≡ eqb s (cellOf i b)
-waits-byte b s i h =
-    below? b 4
-    (λ l. rw (lt-ltb b 4 l) (low l ∙ sym (ne-eqb s (semaphoreLimit + i) (omega arith))))
-    (λ l. rw (le-ltb b 4 l, byte-waiting b l) (eqb-swap (b - 4) s))
-  where
-    low : b < 4 → waitsOn s (byteState b) ≡ false
-    low l =
-        either b 0 (λ e. rw e refl)
-        (λ n0. either b 1 (λ e. rw e refl)
-        (λ n1. either b 2 (λ e. rw e refl)
-        (λ n2. let e : b ≡ 3 = omega arith in rw e refl)))
-
--- the same of a process
-pub waits-cell : (bs : List ℕ) (p i k : ℕ) → p < processLimit → k ≡ cellOf i (getD bs (statesAt + p) 0) → (s : ℕ) → s < semaphoreLimit → waitsOn s (stateOf (fromBytes bs) p) ≡ eqb s k
-waits-cell bs p i k hp e s h = ap (waitsOn s) (state-said bs p hp) ∙ waits-byte (getD bs (statesAt + p) 0) s i h ∙ ap (eqb s) (sym e)
-
 -- well formed bytes name semaphores only
 pub names-all : (bs : List ℕ) → wellFormed bs ≡ true → all processLimit (λ p. namesSemaphore (stateOf (fromBytes bs) p)) ≡ true
 names-all bs wf =
@@ -85,3 +63,25 @@ names-all bs wf =
     one Ready n = refl
     one Suspended n = refl
     one (Waiting s) n = lt-ltb s semaphoreLimit n
+
+-- what a sum of those that pass is at most
+sum-small : (f : ℕ → Bool) (w : ℕ → ℕ) (i m : ℕ) → ((p : ℕ) → p < i → w p ≤ m) → total i (λ p. if f p then w p else 0) ≤ i * m
+sum-small f w i m h = total-at-most i (λ p. if f p then w p else 0) m (λ p k. one (f p) (w p) (h p k))
+  where
+    one : (b : Bool) (v : ℕ) → v ≤ m → (if b then v else 0) ≤ m
+    one true v k = k
+    one false v k = omega arith
+
+-- a turn of a loop that adds up the current processes
+module _ (bs : List ℕ) (w : ℕ → ℕ) (i n : ℕ) (h : i < processLimit) (e : n ≡ tally (fromBytes bs) isCurrent w i) where
+  test : isCurrent (stateOf (fromBytes bs) i) ≡ eqb (getD bs (statesAt + i) 0) 1
+  test = ap isCurrent (state-said bs i h) ∙ current-byte (getD bs (statesAt + i) 0)
+
+  pub current-more : getD bs (statesAt + i) 0 ≡ 1 → n + w i ≡ tally (fromBytes bs) isCurrent w (i + 1)
+  current-more q = sum-yes (λ p. isCurrent (stateOf (fromBytes bs) p)) w i n e (test ∙ eq-eqb _ 1 q)
+
+  pub current-same : (getD bs (statesAt + i) 0 ≡ 1 → ⊥) → n ≡ tally (fromBytes bs) isCurrent w (i + 1)
+  current-same q = sum-no (λ p. isCurrent (stateOf (fromBytes bs) p)) w i n e (test ∙ ne-eqb _ 1 q)
+
+pub currents-small : (bs : List ℕ) (w : ℕ → ℕ) (i m : ℕ) → ((p : ℕ) → p < i → w p ≤ m) → tally (fromBytes bs) isCurrent w i ≤ i * m
+currents-small bs = sum-small (λ p. isCurrent (stateOf (fromBytes bs) p))

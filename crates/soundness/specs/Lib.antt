@@ -1,6 +1,5 @@
 pub mod Good
-pub mod Tallies
+pub mod Sums
 pub mod Running
 pub mod Laid
-pub mod Squeeze
 pub mod Keys

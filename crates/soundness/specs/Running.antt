@@ -9,7 +9,7 @@ use Rattle.tables.specs.declared.Tables.{Tables}
 use Rattle.tables.specs.Limits.{nobody, processLimit}
 use Rattle.tables.specs.Readers.{currentOf, currents}
 use Rattle.tables.specs.Test.{soundNow}
-use Rattle.soundness.specs.Tallies.{tally}
+use Rattle.soundness.specs.Sums.{tally}
 
 -- each that passes adds the limit and its number: one alone adds less than twice the limit
 abbrev pub weightOf : Tables → (State → Bool) → ℕ

@@ -1,5 +1,4 @@
 // The check.
-use crate::counts::counts_fit;
 use crate::form::well_formed;
 use crate::ready::keys;
 use crate::ready::ready_falls;
@@ -8,12 +7,13 @@ use crate::running::UNKNOWN;
 use crate::running::sole;
 use crate::slots::null_fits;
 use crate::slots::slots_fit;
-use crate::waiters::CELLS;
-use crate::waiters::tally;
 use layout::offsets::NEXT_PROCESS;
 use layout::offsets::NEXT_SEMAPHORE;
 use layout::offsets::PRIORITIES;
 use layout::offsets::STATES;
+use queues::counts::counts_fit;
+use queues::waiters::CELLS;
+use queues::waiters::tally;
 use tables::Tables;
 ghost use mathlib.Core.Path.{_≡_};
 ghost use mathlib.Core.Bool.{true};

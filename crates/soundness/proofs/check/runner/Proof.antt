@@ -10,10 +10,10 @@ use Rattle.tables.specs.Limits.{nobody, processLimit}
 use Rattle.tables.specs.Test.{semaphoresFit}
 use Rattle.layout.proofs.Image.{formed-long, formed-place}
 use Rattle.lists.proofs.Bools.{not-false, not-true}
+use Rattle.queues.proofs.Tally.{none-tallied}
 use Rattle.soundness.specs.Laid.{laidClauses}
 use Rattle.soundness.proofs.check.runner.Statement.{statement}
 use Rattle.soundness.proofs.Parts.{current-small, nobody-runs, not-falling, not-fitting, priority-small, queues-said, runs}
-use Rattle.soundness.proofs.Tally.{none-tallied}
 use Rattle.soundness.proofs.check.runner.Tie as tie
 
 -- what is known once the sole current process is found

@@ -10,9 +10,9 @@ use Rattle.layout.specs.Offsets.{size}
 use Rattle.tables.specs.Limits.{processLimit}
 use Rattle.tables.specs.States.{isCurrent}
 use Rattle.lists.proofs.Rows.{total-none}
-use Rattle.soundness.specs.Tallies.{tally}
+use Rattle.soundness.specs.Sums.{tally}
 use Rattle.soundness.proofs.running.weight.Statement.{statement}
-use Rattle.soundness.proofs.Tally.{current-more, current-same, currents-small}
+use Rattle.soundness.proofs.StateBytes.{current-more, current-same, currents-small}
 use Rattle.soundness.proofs.running.weight.Tie as tie
 
 abbrev Inv-loop : tie.InvT-loop

@@ -1,0 +1,17 @@
+-- What the loops of the check add up.
+use Prim.Native.Nat.{ℕ}
+use mathlib.Core.Bool.{Bool}
+use Rattle.lists.specs.Lists.{if_then_else_}
+use Rattle.lists.specs.Numbers.{total}
+use Rattle.tables.specs.declared.State.{State}
+use Rattle.tables.specs.declared.Tables.{Tables}
+use Rattle.tables.specs.Limits.{processLimit}
+use Rattle.tables.specs.Readers.{stateOf}
+
+-- w over the numbers below n of the processes whose state passes the test
+abbrev pub tally : Tables → (State → Bool) → (ℕ → ℕ) → ℕ → ℕ
+tally t test w n = total n (λ p. if test (stateOf t p) then w p else 0)
+
+-- how many slots pass
+abbrev pub manyOf : Tables → (State → Bool) → ℕ
+manyOf t test = tally t test (λ p. 1) processLimit
