@@ -1,10 +1,10 @@
 // A call by its number: 13, then 14 if an argument that the call doesn't use isn't 0, then the call's own checks.
+use order::counts::is_zero;
 use processes::kill::kill;
 use processes::make_process::make_process;
 use processes::resume::resume;
 use processes::suspend::suspend;
 use processes::yields::yields;
-use rows::counts::is_zero;
 use scheduling::step::Step;
 use scheduling::step::Told;
 use scheduling::step::finish;

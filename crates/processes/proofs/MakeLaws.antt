@@ -11,9 +11,9 @@ use Rattle.layout.specs.Offsets.{statesAt}
 use Rattle.layout.specs.Stands.{Tells, Turns}
 use Rattle.lists.specs.Lists.{firstOr, isEmpty}
 use Rattle.lists.specs.Numbers.{roundFrom}
-use Rattle.rows.specs.Index.{indexBelow}
-use Rattle.rows.specs.Search.{firstFree}
-use Rattle.rows.specs.declared.index.Index.the-variants.{At, Outside}
+use Rattle.order.specs.Index.{indexBelow}
+use Rattle.order.specs.Search.{firstFree}
+use Rattle.order.specs.declared.index.Index.the-variants.{At, Outside}
 use Rattle.rules.specs.Calls.{MakeProcess, onePast, outside, step}
 use Rattle.scheduling.specs.Steps.{Leads}
 use Rattle.scheduling.specs.declared.step.Step.the-variants.{Done, Refused}
@@ -23,9 +23,9 @@ use Rattle.tables.specs.Setters.{newSlot, withNextProcess, withProcess}
 use Rattle.tables.specs.States.{isFree}
 use Rattle.tables.specs.declared.Process.{Process}
 use Rattle.lists.proofs.ListLaws.{first-passes}
-use Rattle.rows.proofs.Found.{first-none, first-some}
-use Rattle.rows.proofs.IndexLaws.{no-number, number}
-use Rattle.rows.proofs.SearchLaws.{first-slot}
+use Rattle.order.proofs.Found.{first-none, first-some}
+use Rattle.order.proofs.IndexLaws.{no-number, number}
+use Rattle.order.proofs.SearchLaws.{first-slot}
 use Rattle.scheduling.proofs.RunningLaws.{slot-still}
 use Rattle.scheduling.proofs.StepLaws.{refuses}
 use Rattle.tables.proofs.LineLaws.{live-slot}

@@ -3,9 +3,9 @@ use layout::fields::count;
 use layout::fields::process;
 use layout::fields::put_count;
 use layout::fields::put_process;
-use rows::counts::raised;
-use rows::index::Index;
-use rows::index::index_below;
+use order::counts::raised;
+use order::index::Index;
+use order::index::index_below;
 use scheduling::step::Step;
 use tables::Process;
 use tables::State;
@@ -19,7 +19,7 @@ ghost use Rattle.tables.specs.Setters.{withCount, withProcess};
 ghost use Rattle.layout.specs.Offsets.{size};
 ghost use Rattle.layout.specs.Stands.{Turns};
 ghost use Rattle.rules.specs.Calls.{Kill, step};
-ghost use Rattle.rows.specs.Counts.{raise};
+ghost use Rattle.order.specs.Counts.{raise};
 ghost use Rattle.scheduling.specs.Steps.{Leads};
 
 fn free_slot(bytes: &mut [u8], p: u8)

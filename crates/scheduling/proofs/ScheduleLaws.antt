@@ -11,7 +11,7 @@ use Rattle.layout.specs.Bytes.{stateByte}
 use Rattle.layout.specs.Offsets.{statesAt}
 use Rattle.layout.specs.Stands.{Stands, Tells, Turns}
 use Rattle.lists.specs.Lists.{filter, if_then_else_, place, putBefore, times, without}
-use Rattle.rows.specs.Row.{below, found, placed}
+use Rattle.order.specs.Row.{below, found, placed}
 use Rattle.rules.specs.Schedule.{joining, makeReady, makeWait, reschedule, startFirst, switch}
 use Rattle.tables.specs.Limits.{processLimit}
 use Rattle.tables.specs.Readers.{currentOf, currents, line, priorityOf, process, readyList, stateOf}
@@ -25,7 +25,7 @@ use Rattle.layout.proofs.Compose.{in-turn, with-told}
 use Rattle.layout.proofs.Readers.{state-stands}
 use Rattle.lists.proofs.Bools.{split}
 use Rattle.lists.proofs.ListLaws.{times-filter}
-use Rattle.rows.proofs.Found.{current-byte, line-ready, told-nobody, told-somebody}
+use Rattle.order.proofs.Found.{current-byte, line-ready, told-nobody, told-somebody}
 use Rattle.rules.proofs.Joins.{ready-joined}
 use Rattle.tables.proofs.LineLaws.{at-same, line-first}
 use Rattle.tables.proofs.Sentences.{current-unique}

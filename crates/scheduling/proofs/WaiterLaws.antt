@@ -13,15 +13,15 @@ use Rattle.layout.specs.Bytes.{stateByte}
 use Rattle.layout.specs.Offsets.{statesAt}
 use Rattle.layout.specs.Stands.{Stands, Tells, Turns}
 use Rattle.lists.specs.Lists.{filter, if_then_else_}
-use Rattle.rows.specs.Row.{byByte}
+use Rattle.order.specs.Row.{byByte}
 use Rattle.rules.specs.Schedule.{makeAllReady, makeReady}
 use Rattle.tables.specs.Limits.{processLimit}
 use Rattle.tables.specs.Readers.{line, stateOf}
 use Rattle.tables.specs.declared.Tables.{Tables}
 use Rattle.lists.proofs.Bools.{split}
 use Rattle.lists.proofs.RoundLaws.{filter-append}
-use Rattle.rows.proofs.Found.{place-byte}
-use Rattle.rows.proofs.Moves.{next}
+use Rattle.order.proofs.Found.{place-byte}
+use Rattle.order.proofs.Moves.{next}
 use Rattle.scheduling.specs.Waiters.{marked, numbers, readyIf}
 
 -- The line, read place by place

@@ -4,7 +4,7 @@ use mathlib.Core.List.{List}
 use lib.Dec.{ltb}
 use lib.ListN.{getD}
 use Rattle.lists.specs.Lists.{filter, if_then_else_}
-use Rattle.rows.specs.Row.{byByte}
+use Rattle.order.specs.Row.{byByte}
 use Rattle.rules.specs.Schedule.{makeReady}
 use Rattle.tables.specs.Limits.{processLimit}
 use Rattle.tables.specs.Readers.{stateOf}

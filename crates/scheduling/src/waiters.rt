@@ -2,7 +2,7 @@
 use crate::schedule::make_ready;
 use layout::fields::place;
 use layout::offsets::STATES;
-use rows::row::NOBODY;
+use order::row::NOBODY;
 use tables::Tables;
 ghost use mathlib.Core.Path.{_≡_};
 ghost use Prim.Native.Nat.{_<_};
@@ -12,7 +12,7 @@ ghost use Rattle.tables.specs.Readers.{line};
 ghost use Rattle.layout.specs.Offsets.{size};
 ghost use Rattle.layout.specs.Stands.{Turns, Tells};
 ghost use Rattle.rules.specs.Schedule.{makeAllReady};
-ghost use Rattle.rows.specs.Row.{byByte};
+ghost use Rattle.order.specs.Row.{byByte};
 ghost use Rattle.scheduling.specs.Waiters.{marked, numbers, readyIf};
 
 fn mark(bytes: &[u8], i: usize, b: u8) -> u8

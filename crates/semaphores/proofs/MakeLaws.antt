@@ -8,7 +8,7 @@ use Rattle.layout.specs.Offsets.{usedAt}
 use Rattle.layout.specs.Stands.{Tells, Turns}
 use Rattle.lists.specs.Lists.{firstOr, isEmpty}
 use Rattle.lists.specs.Numbers.{roundFrom}
-use Rattle.rows.specs.Search.{firstFree}
+use Rattle.order.specs.Search.{firstFree}
 use Rattle.rules.specs.Calls.{MakeSemaphore, below0, onePast, step}
 use Rattle.scheduling.specs.Steps.{Leads}
 use Rattle.scheduling.specs.declared.step.Step.the-variants.{Done, Refused}
@@ -16,8 +16,8 @@ use Rattle.tables.specs.Limits.{semaphoreLimit}
 use Rattle.tables.specs.Readers.{line}
 use Rattle.tables.specs.Setters.{withNextSemaphore, withSemaphore}
 use Rattle.tables.specs.declared.Tables.{Tables}
-use Rattle.rows.proofs.Found.{first-none, first-some}
-use Rattle.rows.proofs.SearchLaws.{first-semaphore}
+use Rattle.order.proofs.Found.{first-none, first-some}
+use Rattle.order.proofs.SearchLaws.{first-semaphore}
 use Rattle.scheduling.proofs.RunningLaws.{still}
 use Rattle.scheduling.proofs.StepLaws.{refuses}
 

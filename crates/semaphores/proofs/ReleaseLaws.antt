@@ -7,7 +7,7 @@ use lib.IntN.{pos, ℤ}
 use borrow.Author.Tests.{lt-leb}
 use Rattle.layout.specs.Stands.{Stands, Tells, Turns}
 use Rattle.lists.specs.Lists.{isEmpty}
-use Rattle.rows.specs.Row.{byByte, found}
+use Rattle.order.specs.Row.{byByte, found}
 use Rattle.rules.specs.Calls.{Delete, Reset, below0, deed, finish, release, step}
 use Rattle.rules.specs.Schedule.{makeAllReady}
 use Rattle.scheduling.specs.Steps.{Leads}
@@ -21,7 +21,7 @@ use Rattle.tables.specs.declared.Semaphore.{Semaphore}
 use Rattle.tables.specs.declared.Tables.{Tables}
 use Rattle.semaphores.specs.Target.{Chosen}
 use Rattle.semaphores.specs.declared.target.Target.the-variants.{Refusal, Used}
-use Rattle.rows.proofs.Found.{line-queue, told-nobody, told-somebody}
+use Rattle.order.proofs.Found.{line-queue, told-nobody, told-somebody}
 use Rattle.scheduling.proofs.RunningLaws.{all-still, still}
 use Rattle.scheduling.proofs.StepLaws.{alike, refuses}
 

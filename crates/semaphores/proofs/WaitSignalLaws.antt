@@ -9,8 +9,8 @@ use lib.Signed.{leZ}
 use borrow.Author.Tests.{lt-leb}
 use Rattle.layout.specs.Stands.{Stands, Tells, Turns}
 use Rattle.lists.specs.Lists.{first, firstOr}
-use Rattle.rows.specs.Counts.{lower, raise}
-use Rattle.rows.specs.Row.{found}
+use Rattle.order.specs.Counts.{lower, raise}
+use Rattle.order.specs.Row.{found}
 use Rattle.rules.specs.Calls.{Signal, Wait, below0, largest, step}
 use Rattle.rules.specs.Schedule.{makeReady, makeWait}
 use Rattle.scheduling.specs.Running.{Only}
@@ -25,8 +25,8 @@ use Rattle.tables.specs.declared.State.the-variants.{Waiting}
 use Rattle.tables.specs.declared.Tables.{Tables}
 use Rattle.semaphores.specs.Target.{Chosen}
 use Rattle.semaphores.specs.declared.target.Target.the-variants.{Used}
-use Rattle.rows.proofs.CountLaws.{lower-sound, somebody-waits}
-use Rattle.rows.proofs.Found.{line-queue, told-nobody, told-somebody}
+use Rattle.order.proofs.CountLaws.{lower-sound, somebody-waits}
+use Rattle.order.proofs.Found.{line-queue, told-nobody, told-somebody}
 use Rattle.scheduling.proofs.RunningLaws.{ready-still, still, wait-stopped}
 use Rattle.scheduling.proofs.StepLaws.{refuses}
 use Rattle.tables.proofs.LineLaws.{line-first, live-once, live-slot}

@@ -1,8 +1,8 @@
 // What delete and reset share: all waiters of a semaphore become ready.
 use layout::fields::put_semaphore;
 use layout::state::WAITING;
-use rows::row::NOBODY;
-use rows::row::find;
+use order::row::NOBODY;
+use order::row::find;
 use scheduling::step::Step;
 use scheduling::waiters::make_all_ready;
 use scheduling::waiters::picked;
