@@ -3,11 +3,4 @@ pub mod Entry
 pub mod ByValue
 pub mod FieldLaws
 pub mod Calls
-pub mod SmallBytes
-pub mod Demand1
-pub mod Given
-pub mod Asked
-pub mod Sessions
-pub mod ShutOut
-pub mod Edges
 pub mod BootBytes

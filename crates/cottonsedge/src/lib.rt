@@ -1,4 +1,4 @@
-// What the firmware calls: over numbers and lent bytes, with nothing asked of the caller.
+// What the firmware calls, over numbers and lent bytes, and the call by value for callers in Rattle; nothing is asked of the caller.
 pub mod answer;
 pub mod boot;
 pub mod call;

@@ -15,7 +15,7 @@ use Rattle.tables.specs.Boot.{boot}
 use Rattle.layout.specs.Offsets.{size}
 use Rattle.layout.specs.Bytes.{toBytes}
 use Rattle.cottonsedge.specs.Entries.{booted}
-use Rattle.cottonsedge.proofs.Sessions.{boot-bytes}
+use Rattle.cottonsedge.proofs.BootBytes.{boot-bytes}
 use Rattle.lines.specs.Line.{lineOf}
 use Rattle.lines.specs.Answers.{newline, answerTo, tablesAfter, textOf, over}
 use Rattle.feed.specs.declared.feed.Fed.{Fed}

@@ -19,15 +19,15 @@ use Rattle.rules.specs.declared.Answer.the-variants.{Done}
 use Rattle.tables.specs.Boot.{boot}
 use Rattle.tables.specs.Readers.{countOf}
 use Rattle.tables.specs.declared.Tables.{Tables}
+use Rattle.cottonsedge.specs.Fields.{refusalField, valueField}
 use Rattle.promises.proofs.Runs.{boot-run-fits, boot-run-sound}
-use Rattle.cottonsedge.specs.Demands.{Allowed, Asked, Bytes, Demand2, Kernel, Result}
-use Rattle.cottonsedge.specs.Fields.{refusalField, valueField}
-use Rattle.cottonsedge.specs.Kernels.{Wrong, answersOne, asksTwice, changesNothing, makesUpCount, onlyFirst, refusesAll}
-use Rattle.cottonsedge.specs.Sessions.{AllAsked, Steps, given, left}
-use Rattle.cottonsedge.proofs.Asked.{asked-fit, tested}
 use Rattle.cottonsedge.proofs.Calls.{back}
-use Rattle.cottonsedge.proofs.Demand1.{exact}
-use Rattle.cottonsedge.proofs.Sessions.{demand2-steps, steps-bytes, steps-refusal, steps-value}
+use Rattle.demands.specs.Demands.{Allowed, Asked, Bytes, Demand2, Kernel, Result}
+use Rattle.demands.specs.Kernels.{Wrong, answersOne, asksTwice, changesNothing, makesUpCount, onlyFirst, refusesAll}
+use Rattle.demands.specs.Sessions.{AllAsked, Steps, given, left}
+use Rattle.demands.proofs.Asked.{asked-fit, tested}
+use Rattle.demands.proofs.Demand1.{exact}
+use Rattle.demands.proofs.Sessions.{demand2-steps, steps-bytes, steps-refusal, steps-value}
 
 -- One kernel
 

@@ -12,15 +12,16 @@ use Rattle.promises.specs.Edges.{Each, Edge, edges, sightOf}
 use Rattle.promises.specs.Record.{Request, after, made}
 use Rattle.rules.specs.Answers.{valueOf}
 use Rattle.tables.specs.Boot.{boot}
+use Rattle.cottonsedge.specs.Entries.{booted}
 use Rattle.promises.proofs.Edges.{edges-hold}
 use Rattle.promises.proofs.Runs.{boot-run-fits, boot-run-sound}
-use Rattle.cottonsedge.specs.Demands.{Demand2, Kernel}
-use Rattle.cottonsedge.specs.Edges.{sightOfBytes}
-use Rattle.cottonsedge.specs.Entries.{booted}
-use Rattle.cottonsedge.specs.Sessions.{AllAsked, given, left}
-use Rattle.cottonsedge.proofs.Asked.{allAsked, asked-fit, tested}
+use Rattle.cottonsedge.proofs.BootBytes.{boot-bytes}
 use Rattle.cottonsedge.proofs.Calls.{value-fits}
-use Rattle.cottonsedge.proofs.Sessions.{boot-bytes, demand2-steps, left-tables, steps-process, steps-refusal, steps-value}
+use Rattle.demands.specs.Demands.{Demand2, Kernel}
+use Rattle.demands.specs.Edges.{sightOfBytes}
+use Rattle.demands.specs.Sessions.{AllAsked, given, left}
+use Rattle.demands.proofs.Asked.{allAsked, asked-fit, tested}
+use Rattle.demands.proofs.Sessions.{demand2-steps, left-tables, steps-process, steps-refusal, steps-value}
 
 -- the requests of a line, the latest first
 abbrev requestsOf : Edge → List Request

@@ -11,7 +11,7 @@ use mir.Val.{hbits}
 use borrow.Author.Tests.{ltb-true}
 use Rattle.promises.specs.Record.{AllFit, Request}
 use Rattle.lists.proofs.Bools.{both}
-use Rattle.cottonsedge.specs.Sessions.{AllAsked}
+use Rattle.demands.specs.Sessions.{AllAsked}
 
 pub asked-fit : (requests : List Request) → AllAsked requests → AllFit requests
 asked-fit [] k = tt

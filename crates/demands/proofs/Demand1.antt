@@ -17,17 +17,17 @@ use Rattle.tables.specs.Counts.{CountsFit}
 use Rattle.tables.specs.Readers.{currentOf}
 use Rattle.tables.specs.Sound.{Sound}
 use Rattle.tables.specs.declared.Tables.{Tables}
+use Rattle.cottonsedge.specs.Entries.{answerOf, bytesAfter}
+use Rattle.cottonsedge.specs.Fields.{refusalField}
 use Rattle.layout.proofs.Image.{bytes-back, stands-read}
 use Rattle.lists.proofs.Bools.{split}
 use Rattle.rules.proofs.Refusals.{Ranged, numbered-never-12, numbered-ranged, numbered-refused}
 use Rattle.soundness.proofs.GoodBytes.{good-formed, good-sound}
-use Rattle.cottonsedge.specs.Demands.{Allowed, Asked, Bytes, Demand1, Result}
-use Rattle.cottonsedge.specs.Entries.{answerOf, bytesAfter}
-use Rattle.cottonsedge.specs.Fields.{refusalField}
 use Rattle.cottonsedge.proofs.Calls.{call-bytes, call-packed, call-process, call-refusal, call-runs, call-value, value-fits}
 use Rattle.cottonsedge.proofs.Entry.{refused-answer, refused-bytes}
 use Rattle.cottonsedge.proofs.FieldLaws.{packed-small}
 use Rattle.cottonsedge.proofs.Standing.{sound-good}
+use Rattle.demands.specs.Demands.{Allowed, Asked, Bytes, Demand1, Result}
 
 -- what the contract allows
 abbrev pub exact : List ℕ → Request → Result

@@ -2,8 +2,8 @@
 use Prim.Native.Nat.{ℕ}
 use mathlib.Core.List.{List, [], _∷_}
 use Rattle.promises.specs.Record.{Request, Entry}
 use Rattle.cottonsedge.specs.Fields.{processField, unpacked}
-use Rattle.cottonsedge.specs.Demands.{Asked, Result, Allowed, Kernel}
+use Rattle.demands.specs.Demands.{Asked, Result, Allowed, Kernel}
 
 abbrev pub AllAsked : List Request → Type 0
 AllAsked [] = Unit

@@ -6,7 +6,6 @@ use mathlib.Core.Path.{_∙_, _≡_, ap, refl, sym}
 use lib.ListN.{length}
 use mir.Syntax.{w32}
 use mir.Val.{ofZ}
-use borrow.Author.Tests.{eq-eqb}
 use Rattle.layout.specs.Bytes.{fromBytes, toBytes}
 use Rattle.layout.specs.Offsets.{size}
 use Rattle.lists.specs.Lists.{filter, firstOr}
@@ -19,16 +18,17 @@ use Rattle.tables.specs.Boot.{boot}
 use Rattle.tables.specs.Counts.{CountsFit}
 use Rattle.tables.specs.Readers.{currentOf, line}
 use Rattle.tables.specs.Sound.{Sound}
+use Rattle.cottonsedge.specs.Entries.{answerOf, booted}
+use Rattle.cottonsedge.specs.Fields.{processField, refusalField, unpacked, valueField}
 use Rattle.promises.proofs.Demand.{demand3}
 use Rattle.promises.proofs.Runs.{boot-run-fits, boot-run-sound}
-use Rattle.cottonsedge.specs.Demands.{Demand2, Kernel}
-use Rattle.cottonsedge.specs.Entries.{answerOf, booted}
-use Rattle.cottonsedge.specs.Fields.{processField, refusalField, unpacked, valueField}
-use Rattle.cottonsedge.specs.Sessions.{AllAsked, Steps, exchanges, given, left, recordSeen, toldLast}
-use Rattle.cottonsedge.proofs.Asked.{asked-fit}
+use Rattle.cottonsedge.proofs.BootBytes.{boot-bytes}
 use Rattle.cottonsedge.proofs.Calls.{back, call-answer, call-bytes, call-process, call-refusal, call-value}
-use Rattle.cottonsedge.proofs.SmallBytes.{sound-bytes}
 use Rattle.cottonsedge.proofs.Standing.{sound-good}
+use Rattle.demands.specs.Demands.{Demand2, Kernel}
+use Rattle.demands.specs.Sessions.{AllAsked, Steps, exchanges, given, left, recordSeen, toldLast}
+use Rattle.demands.proofs.Asked.{asked-fit}
+use Rattle.demands.proofs.SmallBytes.{sound-bytes}
 
 boot-runs : currentOf boot ≡ 0
 unfolding boot line filter firstOr listed
@@ -92,10 +92,6 @@ module _ (k : Kernel) where
       (d earlier (left k (toBytes boot) earlier) q (rw (steps-bytes earlier fs ss) (sound-bytes (boot-run-sound earlier) (boot-run-fits earlier fs))) h, ss)
 
 -- Begun with what `cottonsedge_boot` writes
-
-pub boot-bytes : (bs : List ℕ) → length bs ≡ size → booted bs ≡ toBytes boot
-unfolding booted
-boot-bytes bs l = rw (eq-eqb (length bs) size l)
 
 module _ (k : Kernel) (d : Demand2 k) (bs : List ℕ) (l : length bs ≡ size) (requests : List Request) (hs : AllAsked requests) where
   fits : AllFit requests

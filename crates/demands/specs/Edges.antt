@@ -9,9 +9,9 @@ use Rattle.layout.specs.Bytes.{fromBytes}
 use Rattle.rules.specs.Seen.{seen}
 use Rattle.promises.specs.Record.{Request}
 use Rattle.promises.specs.Edges.{Sight, Edge}
 use Rattle.cottonsedge.specs.Fields.{refusalField, valueField, processField}
-use Rattle.cottonsedge.specs.Demands.{Result, Kernel}
-use Rattle.cottonsedge.specs.Sessions.{left, given}
+use Rattle.demands.specs.Demands.{Result, Kernel}
+use Rattle.demands.specs.Sessions.{left, given}
 
 -- where a kernel begins with these bytes
 abbrev pub sightOfBytes : Kernel → List ℕ → Edge → Sight

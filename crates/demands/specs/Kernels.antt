@@ -6,8 +6,8 @@ use mathlib.Core.Path.{_≡_}
 use lib.IntN.{ℤ, pos}
 use Rattle.promises.specs.Record.{Request}
 use Rattle.promises.specs.Edges.{call}
 use Rattle.cottonsedge.specs.Fields.{refusalField, valueField}
-use Rattle.cottonsedge.specs.Demands.{Kernel}
+use Rattle.demands.specs.Demands.{Kernel}
 
 abbrev pub RefusesAll : Kernel → Type 0
 RefusesAll k = (earlier : List Request) (bs : List ℕ) (q : Request) → refusalField (k earlier bs q .answer) ≢ 0

@@ -21,8 +21,8 @@ use Rattle.tables.specs.declared.Tables.{Tables}
 use Rattle.layout.proofs.Image.{byte-at, bytes-long}
 use Rattle.lists.proofs.Bools.{below?, split}
 use Rattle.tables.proofs.SlotLaws.{priority-top}
-use Rattle.cottonsedge.specs.Demands.{Bytes}
 use Rattle.cottonsedge.proofs.Standing.{sound-held}
+use Rattle.demands.specs.Demands.{Bytes}
 
 -- whichever is chosen
 chosen : (b : Bool) (x y : ℕ) → x < 256 → y < 256 → (if b then x else y) < 256

@@ -11,15 +11,15 @@ use Rattle.telling.specs.Reasons.{FirstOf}
 use Rattle.rules.specs.declared.Answer.{Answer}
 use Rattle.rules.specs.declared.Answer.the-variants.{Done, Refused}
 use Rattle.soundness.specs.Good.{good}
+use Rattle.cottonsedge.specs.Entries.{answerOf}
+use Rattle.cottonsedge.specs.Fields.{refusalField}
 use Rattle.layout.proofs.Image.{bytes-back, stands-read}
 use Rattle.lists.proofs.Bools.{split}
 use Rattle.telling.proofs.Given.{numbered-exactly}
 use Rattle.soundness.proofs.GoodBytes.{good-formed, good-sound}
-use Rattle.cottonsedge.specs.Demands.{Allowed, Asked, Bytes, Result, reasonsOfBytes}
-use Rattle.cottonsedge.specs.Entries.{answerOf}
-use Rattle.cottonsedge.specs.Fields.{refusalField}
 use Rattle.cottonsedge.proofs.Calls.{call-refusal}
 use Rattle.cottonsedge.proofs.Entry.{refused-answer}
+use Rattle.demands.specs.Demands.{Allowed, Asked, Bytes, Result, reasonsOfBytes}
 
 -- a number that isn't 0 is a refusal's
 number-refused : (r : Answer) (n : ℕ) → n ≢ 0 → (numberOf r ≡ n) ↔ (r ≡ Refused n)

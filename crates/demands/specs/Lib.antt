@@ -1,0 +1,4 @@
+pub mod Demands
+pub mod Sessions
+pub mod Kernels
+pub mod Edges
