@@ -7,7 +7,7 @@ use mathlib.Core.Path.{_∙_, _≡_, refl, subst, sym}
 use lib.IntN.{ℤ}
 use lib.ListN.{length}
 use borrow.Author.Tests.{le-ltb}
-use Rattle.layout.specs.Bytes.{fromBytes, stateByte, toBytes}
+use Rattle.layout.specs.Bytes.{fromBytes, stateByte, toBytes, waitingFrom}
 use Rattle.layout.specs.Offsets.{orderAt, statesAt}
 use Rattle.layout.specs.Stands.{Does, Held, Named, Stands}
 use Rattle.rules.specs.Answers.{refused}
@@ -36,7 +36,7 @@ module _ (t : Tables) (n : ℕ) (a b : ℤ) (slots : length (t .processes) ≡ p
   value-unsound g = split (soundNow t) (λ e. absurd (true≢false (sym (sound-good (checked-sound e) fits) ∙ g))) (λ e. sym (rw e))
 
   module _ (g : good (toBytes t) ≡ true) where
-    state-named : (st : State) → stateByte st < 4 + semaphoreLimit → Named st
+    state-named : (st : State) → stateByte st < waitingFrom + semaphoreLimit → Named st
     state-named Free h = tt
     state-named Current h = tt
     state-named Ready h = tt
@@ -50,7 +50,7 @@ module _ (t : Tables) (n : ℕ) (a b : ℤ) (slots : length (t .processes) ≡ p
           slots = slots;
           entries = entries;
           places = places;
-          waits = λ p h. state-named (stateOf t p) (subst (λ (k : ℕ). k < 4 + semaphoreLimit) (byte-at t (statesAt + p) (omega arith) ∙ state-byte t p (statesAt + p) h refl) (formed-state (toBytes t) wf p h));
+          waits = λ p h. state-named (stateOf t p) (subst (λ (k : ℕ). k < waitingFrom + semaphoreLimit) (byte-at t (statesAt + p) (omega arith) ∙ state-byte t p (statesAt + p) h refl) (formed-state (toBytes t) wf p h));
           fits = fits;
           row = λ i h. subst (λ (k : ℕ). k < processLimit) (byte-at t (orderAt + i) (omega arith) ∙ place-byte t i (orderAt + i) h refl) (formed-place (toBytes t) wf i h);
         }

@@ -9,7 +9,7 @@ use lib.Dec.{ltb}
 use lib.ListN.{drop, drop-of-length-le, getD, length}
 use lib.Seq.{drop-cons}
 use borrow.Author.Tests.{eq-eqb, lt-ltb, ne-eqb}
-use Rattle.layout.specs.Bytes.{noState, stateByte}
+use Rattle.layout.specs.Bytes.{noState, stateByte, waitingFrom}
 use Rattle.layout.specs.Offsets.{statesAt}
 use Rattle.layout.specs.Stands.{Stands, Tells}
 use Rattle.lists.specs.Lists.{filter, firstOr}
@@ -59,8 +59,8 @@ module _ (b : ℕ) (bs : List ℕ) where
 
 -- A line by the byte of the state
 
-pub wait-byte : (q b : ℕ) → b < 4 → byByte b (Waiting q) ≡ false
-wait-byte q b h = split (ltb q semaphoreLimit) (λ e. rw e (ne-eqb (4 + q) b (λ z. omega arith))) (λ e. rw e (ne-eqb noState b (λ z. omega arith)))
+pub wait-byte : (q b : ℕ) → b < waitingFrom → byByte b (Waiting q) ≡ false
+wait-byte q b h = split (ltb q semaphoreLimit) (λ e. rw e (ne-eqb (waitingFrom + q) b (λ z. omega arith))) (λ e. rw e (ne-eqb noState b (λ z. omega arith)))
 
 same-line : (t : Tables) (f g : State → Bool) → ((s : State) → f s ≡ g s) → line t f ≡ line t g
 unfolding line
@@ -83,21 +83,21 @@ current-byte Ready = refl
 current-byte Suspended = refl
 current-byte (Waiting q) = wait-byte q 1 (omega arith)
 
-pub line-queue : (t : Tables) (s : ℕ) → s < semaphoreLimit → line t (byByte (4 + s)) ≡ queue t s
-line-queue t s h = same-line t (byByte (4 + s)) (waitsOn s) same
+pub line-queue : (t : Tables) (s : ℕ) → s < semaphoreLimit → line t (byByte (waitingFrom + s)) ≡ queue t s
+line-queue t s h = same-line t (byByte (waitingFrom + s)) (waitsOn s) same
   where
-    named : (q : ℕ) → stateByte (Waiting q) ≡ 4 + s → q ≡ s
+    named : (q : ℕ) → stateByte (Waiting q) ≡ waitingFrom + s → q ≡ s
     named q = split (ltb q semaphoreLimit) (λ e. rw e (λ z. omega arith)) (λ e. rw e (λ z. absurd (omega arith)))
 
-    same : (x : State) → byByte (4 + s) x ≡ waitsOn s x
-    same Free = ne-eqb 0 (4 + s) (λ z. omega arith)
-    same Current = ne-eqb 1 (4 + s) (λ z. omega arith)
-    same Ready = ne-eqb 2 (4 + s) (λ z. omega arith)
-    same Suspended = ne-eqb 3 (4 + s) (λ z. omega arith)
+    same : (x : State) → byByte (waitingFrom + s) x ≡ waitsOn s x
+    same Free = ne-eqb 0 (waitingFrom + s) (λ z. omega arith)
+    same Current = ne-eqb 1 (waitingFrom + s) (λ z. omega arith)
+    same Ready = ne-eqb 2 (waitingFrom + s) (λ z. omega arith)
+    same Suspended = ne-eqb 3 (waitingFrom + s) (λ z. omega arith)
     same (Waiting q) =
         either q s
-        (λ e. rw (e, lt-ltb s semaphoreLimit h) (eq-eqb (4 + s) (4 + s) refl ∙ sym (eq-eqb s s refl)))
-        (λ n. ne-eqb (stateByte (Waiting q)) (4 + s) (λ e. n (named q e)) ∙ sym (ne-eqb q s n))
+        (λ e. rw (e, lt-ltb s semaphoreLimit h) (eq-eqb (waitingFrom + s) (waitingFrom + s) refl ∙ sym (eq-eqb s s refl)))
+        (λ n. ne-eqb (stateByte (Waiting q)) (waitingFrom + s) (λ e. n (named q e)) ∙ sym (ne-eqb q s n))
 
 -- What a search tells
 

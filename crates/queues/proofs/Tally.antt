@@ -8,7 +8,7 @@ use lib.Dec.{eqb}
 use lib.ListN.{List·getD-eq-default, getD, getD-replicate, length, length-replicate, length-set, replicate, set}
 use lib.Seq.{getD-set-other, getD-set-same}
 use borrow.Author.Tests.{eq-eqb, le-ltb, lt-ltb, ne-eqb}
-use Rattle.layout.specs.Bytes.{byteState, fromBytes}
+use Rattle.layout.specs.Bytes.{byteState, fromBytes, waitingFrom}
 use Rattle.layout.specs.Offsets.{statesAt}
 use Rattle.lists.specs.Lists.{if_then_else_}
 use Rattle.lists.specs.Numbers.{total}
@@ -32,11 +32,11 @@ eqb-swap m n = either m n (λ e. rw e refl) (λ d. ne-eqb m n d ∙ sym (ne-eqb 
 -- who waits is counted at the semaphore, and nobody else
 waits-byte : (b s i : ℕ) → s < semaphoreLimit → waitsOn s (byteState b) ≡ eqb s (cellOf i b)
 waits-byte b s i h =
-    below? b 4
-    (λ l. rw (lt-ltb b 4 l) (low l ∙ sym (ne-eqb s (semaphoreLimit + i) (omega arith))))
-    (λ l. rw (le-ltb b 4 l, byte-waiting b l) (eqb-swap (b - 4) s))
+    below? b waitingFrom
+    (λ l. rw (lt-ltb b waitingFrom l) (low l ∙ sym (ne-eqb s (semaphoreLimit + i) (omega arith))))
+    (λ l. rw (le-ltb b waitingFrom l, byte-waiting b l) (eqb-swap (b - waitingFrom) s))
   where
-    low : b < 4 → waitsOn s (byteState b) ≡ false
+    low : b < waitingFrom → waitsOn s (byteState b) ≡ false
     low l =
         either b 0 (λ e. rw e refl)
         (λ n0. either b 1 (λ e. rw e refl)

@@ -5,6 +5,7 @@ use mathlib.Core.List.{List, []}
 use mathlib.Core.Path.{_∙_, _≡_, ap, refl, subst, sym}
 use lib.IntN.{pos, ℤ}
 use borrow.Author.Tests.{lt-leb}
+use Rattle.layout.specs.Bytes.{waitingFrom}
 use Rattle.layout.specs.Stands.{Stands, Tells, Turns}
 use Rattle.lists.specs.Lists.{isEmpty}
 use Rattle.order.specs.Row.{byByte, found}
@@ -25,18 +26,18 @@ use Rattle.order.proofs.Found.{line-queue, told-nobody, told-somebody}
 use Rattle.scheduling.proofs.RunningLaws.{all-still, still}
 use Rattle.scheduling.proofs.StepLaws.{alike, refuses}
 
-module _ (s : ℕ) (x : Semaphore) (h : s < semaphoreLimit) (a : List ℕ) (w : ℕ) (head : Tells (found (4 + s)) a w) (b : List ℕ) (put : Turns (λ t. withSemaphore t s x) a b) where
+module _ (s : ℕ) (x : Semaphore) (h : s < semaphoreLimit) (a : List ℕ) (w : ℕ) (head : Tells (found (waitingFrom + s)) a w) (b : List ℕ) (put : Turns (λ t. withSemaphore t s x) a b) where
   pub release-none : w ≡ processLimit → Leads (λ t. finish (release t s x)) a b (Done (pos 1))
   unfolding Leads Turns isEmpty makeAllReady line
   release-none e t st S =
-      let none : queue t s ≡ [] = sym (line-queue t s h) ∙ told-nobody (4 + s) w a head t st e in
+      let none : queue t s ≡ [] = sym (line-queue t s h) ∙ told-nobody (waitingFrom + s) w a head t st e in
       (withSemaphore t s x, rw none refl, put t st, still S (withSemaphore t s x) refl)
 
-  pub release-some : (ps d : List ℕ) → (w ≡ processLimit → ⊥) → Tells (λ t. line t (byByte (4 + s))) a (numbers ps) → Turns (λ t. makeAllReady t (numbers ps)) b d → Leads (λ t. finish (release t s x)) a d (Switches (pos 1))
+  pub release-some : (ps d : List ℕ) → (w ≡ processLimit → ⊥) → Tells (λ t. line t (byByte (waitingFrom + s))) a (numbers ps) → Turns (λ t. makeAllReady t (numbers ps)) b d → Leads (λ t. finish (release t s x)) a d (Switches (pos 1))
   unfolding Leads Tells Turns isEmpty
   release-some ps d waits picked free t st S =
       let v : Tables = withSemaphore t s x in
-      let y = told-somebody (4 + s) w a head t st waits in
+      let y = told-somebody (waitingFrom + s) w a head t st waits in
       let full : isEmpty (queue t s) ≡ false = ap isEmpty (sym (line-queue t s h) ∙ y .2) in
       (makeAllReady v (queue t s), rw full refl, subst (λ (q : List ℕ). Stands (makeAllReady v q) d) (picked t st ∙ line-queue t s h) (free v (put t st)), all-still S s x)
 

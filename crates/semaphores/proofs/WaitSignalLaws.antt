@@ -7,6 +7,7 @@ use lib.Dec.{eqb}
 use lib.IntN.{pos, predℤ, sucℤ, ℤ}
 use lib.Signed.{leZ}
 use borrow.Author.Tests.{lt-leb}
+use Rattle.layout.specs.Bytes.{waitingFrom}
 use Rattle.layout.specs.Stands.{Stands, Tells, Turns}
 use Rattle.lists.specs.Lists.{first, firstOr}
 use Rattle.order.specs.Counts.{lower, raise}
@@ -108,12 +109,12 @@ module _ (z : ℤ) (s : ℕ) (a : List ℕ) (w : Chosen z a (Used s)) (n : ℤ) 
     unfolding Tells
     roomy t st = ap (leZ largest) (sym (count t st)) ∙ free
 
-    pub signal-free : (p : ℕ) (d : List ℕ) → below0 n ≡ true → Tells (found (4 + s)) b p → (p < processLimit → Turns (λ t. makeReady t p) b d) → Leads (λ t. step t (Signal z)) a d (Switches (pos 1))
+    pub signal-free : (p : ℕ) (d : List ℕ) → below0 n ≡ true → Tells (found (waitingFrom + s)) b p → (p < processLimit → Turns (λ t. makeReady t p) b d) → Leads (λ t. step t (Signal z)) a d (Switches (pos 1))
     unfolding Leads Tells Turns firstOr line
     signal-free p d neg head join t st S =
         let owed : below0 (countOf t s) ≡ true = ap below0 (sym (count t st)) ∙ neg in
         let v : Tables = withCount t s m in
-        let x = told-somebody (4 + s) p b head v (put t st) (λ k. somebody-waits S s owed (sym (line-queue v s (w .1)) ∙ told-nobody (4 + s) p b head v (put t st) k)) in
+        let x = told-somebody (waitingFrom + s) p b head v (put t st) (λ k. somebody-waits S s owed (sym (line-queue v s (w .1)) ∙ told-nobody (waitingFrom + s) p b head v (put t st) k)) in
         let q : queue t s ≡ p ∷ x .1 = sym (line-queue v s (w .1)) ∙ x .2 in
         let f : p ≡ first (queue t s) = ap first (sym q) in
         let waits : stateOf t p ≡ Waiting s = waits-on (stateOf t p) s (line-first t (waitsOn s) p (x .1) q) in (

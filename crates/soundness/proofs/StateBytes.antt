@@ -7,7 +7,7 @@ use mathlib.Core.Path.{_∙_, _≡_, ap, refl, sym}
 use lib.Dec.{eqb}
 use lib.ListN.{getD}
 use borrow.Author.Tests.{eq-eqb, lt-ltb, ne-eqb}
-use Rattle.layout.specs.Bytes.{byteState, fromBytes, wellFormed}
+use Rattle.layout.specs.Bytes.{byteState, fromBytes, waitingFrom, wellFormed}
 use Rattle.layout.specs.Offsets.{prioritiesAt, statesAt}
 use Rattle.layout.specs.Stands.{Named}
 use Rattle.lists.specs.Lists.{if_then_else_}
@@ -34,7 +34,7 @@ priority-said bs p h = ap (λ (x : Process). x .priority) (process-said bs p h)
 abbrev Agrees : (State → Bool) → ℕ → ℕ → Type 0
 Agrees test k b = test (byteState b) ≡ eqb b k
 
-by-byte : (test : State → Bool) (k b : ℕ) → Agrees test k 0 → Agrees test k 1 → Agrees test k 2 → Agrees test k 3 → (4 ≤ b → test (Waiting (b - 4)) ≡ eqb b k) → Agrees test k b
+by-byte : (test : State → Bool) (k b : ℕ) → Agrees test k 0 → Agrees test k 1 → Agrees test k 2 → Agrees test k 3 → (waitingFrom ≤ b → test (Waiting (b - waitingFrom)) ≡ eqb b k) → Agrees test k b
 by-byte test k b e0 e1 e2 e3 e4 =
     either b 0 (λ e. rw e e0)
     (λ n0. either b 1 (λ e. rw e e1)
