@@ -1,6 +1,4 @@
 -- Which bytes are good, and which tables stand in bytes. Assumes nothing.
-
--- sound tables whose counts fit can be held
 use Prim.Native.Nat.{_<_, _≤_, ℕ}
 use native.Mathlib.Omega.{arith}
 use mathlib.Core.Bool.{true}
@@ -26,6 +24,7 @@ use Rattle.lists.proofs.Rows.{times-at}
 use Rattle.tables.proofs.Sentences.{waiter-below}
 use Rattle.tables.proofs.TestLaws.{sound-checked}
 
+-- sound tables whose counts fit can be held
 pub sound-held : {t : Tables} → Sound t → CountsFit t → Held t
 sound-held {t} S fits =
     record {

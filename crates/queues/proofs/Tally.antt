@@ -63,7 +63,7 @@ filled-one f xs n v l so is k hk =
     (λ d. getD-set-other xs n k v 0 d ∙ so k (omega arith))
 
 -- no cell is counted at more than once a turn
-pub few-more : (cells : List ℕ) (k n : ℕ) → k < length cells → ((j : ℕ) → getD cells j 0 ≤ n) → (j : ℕ) → getD (set cells k (getD cells k 0 + 1)) j 0 ≤ n + 1
+few-more : (cells : List ℕ) (k n : ℕ) → k < length cells → ((j : ℕ) → getD cells j 0 ≤ n) → (j : ℕ) → getD (set cells k (getD cells k 0 + 1)) j 0 ≤ n + 1
 few-more cells k n hk few j =
     either j k
     (λ e. rw (e, getD-set-same cells k (getD cells k 0 + 1) 0 hk) (let f = few k in omega arith))
@@ -71,7 +71,7 @@ few-more cells k n hk few j =
 
 -- a turn of a loop that counts by a key, in an array whose first m counters matter
 module _ (f : ℕ → ℕ → Bool) (m i : ℕ) (n : List ℕ) (so : (j : ℕ) → j < m → getD n j 0 ≡ total i (λ p. if f j p then 1 else 0)) where
-  pub tally-more : (k : ℕ) → k < length n → ((j : ℕ) → j < m → f j i ≡ eqb j k) → (j : ℕ) → j < m → getD (set n k (getD n k 0 + 1)) j 0 ≡ total (i + 1) (λ p. if f j p then 1 else 0)
+  tally-more : (k : ℕ) → k < length n → ((j : ℕ) → j < m → f j i ≡ eqb j k) → (j : ℕ) → j < m → getD (set n k (getD n k 0 + 1)) j 0 ≡ total (i + 1) (λ p. if f j p then 1 else 0)
   tally-more k hk key j hj =
       either j k
       (λ e.

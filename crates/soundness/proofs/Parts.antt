@@ -10,7 +10,7 @@ use lib.ListN.{getD, length}
 use borrow.Author.Tests.{eq-eqb, eqb-true, leb-true, ne-eqb}
 use Rattle.layout.specs.Bytes.{fromBytes, wellFormed}
 use Rattle.layout.specs.Offsets.{prioritiesAt}
-use Rattle.lists.specs.Lists.{falls, if_then_else_, sum}
+use Rattle.lists.specs.Lists.{falls, if_then_else_}
 use Rattle.lists.specs.Numbers.{all, total}
 use Rattle.tables.specs.Limits.{nobody, priorityLimit, processLimit, semaphoreLimit}
 use Rattle.tables.specs.Readers.{currentOf, currents, line, priorityOf, process, queue, readyList, semaphore, stateOf}
