@@ -51,12 +51,12 @@ weighed f (suc n) = go (f n) _ _ _ (weighed f n)
     go false w m s e = omega arith
 
 -- and the numbers are below the limit
-numbers-light : (f : ℕ → Bool) (n : ℕ) → n ≤ processLimit → total n (λ p. if f p then p else 0) ≤ 31 * total n (λ p. if f p then 1 else 0)
+numbers-light : (f : ℕ → Bool) (n : ℕ) → n ≤ processLimit → total n (λ p. if f p then p else 0) + total n (λ p. if f p then 1 else 0) ≤ processLimit * total n (λ p. if f p then 1 else 0)
 unfolding total
 numbers-light f zero h = omega arith
 numbers-light f (suc n) h = go (f n) _ _ (numbers-light f n (omega arith))
   where
-    go : (b : Bool) (m s : ℕ) → s ≤ 31 * m → s + (if b then n else 0) ≤ 31 * (m + (if b then 1 else 0))
+    go : (b : Bool) (m s : ℕ) → s + m ≤ processLimit * m → (s + (if b then n else 0)) + (m + (if b then 1 else 0)) ≤ processLimit * (m + (if b then 1 else 0))
     go true m s e = omega arith
     go false m s e = omega arith
 
@@ -135,7 +135,7 @@ module _ (bs : List ℕ) (wf : wellFormed bs ≡ true) where
       abbrev numbers : ℕ
       numbers = total processLimit (λ p. if isCurrent (stateOf t p) then p else 0)
 
-      weight : (w ≡ processLimit * length (currents t) + numbers) × (numbers ≤ 31 * length (currents t))
+      weight : (w ≡ processLimit * length (currents t) + numbers) × (numbers + length (currents t) ≤ processLimit * length (currents t))
       weight =
           let f : ℕ → Bool = λ p. isCurrent (stateOf t p) in
           rw (many-said isCurrent) (e ∙ weighed f processLimit, numbers-light f processLimit (omega arith))

@@ -28,7 +28,7 @@ add-sum-2 : tie.Need-add-sum-2 Inv-loop μ-loop
 add-sum-2 c =
     let bs = c .before .before .before .before .args .bytes .now in
     let loop = c .before .before .before .loop in
-    let l = currents-small bs (λ p. processLimit + p) (loop .i) 63 (λ p h. omega arith) in
+    let l = currents-small bs (λ p. processLimit + p) (loop .i) (processLimit + processLimit) (λ p h. omega arith) in
     omega (arith, loop .inv .1)
 
 loop-again : tie.Need-loop-again Inv-loop μ-loop
