@@ -13,8 +13,8 @@ use Rattle.layout.specs.Stands.{Does, Held, Named, Stands}
 use Rattle.rules.specs.Answers.{refused}
 use Rattle.rules.specs.Enter.{enter, numbered}
 use Rattle.soundness.specs.Good.{good}
-use Rattle.tables.specs.Limits.{nobody, processLimit, semaphoreLimit}
-use Rattle.tables.specs.Readers.{stateOf}
+use Rattle.tables.specs.Limits.{processLimit, semaphoreLimit}
+use Rattle.tables.specs.Readers.{stateOf, nobody}
 use Rattle.tables.specs.Sound.{Sound}
 use Rattle.tables.specs.Test.{soundNow}
 use Rattle.tables.specs.declared.State.{State}

@@ -14,8 +14,7 @@ use Rattle.rules.specs.Enter.{enter, numbered}
 use Rattle.rules.specs.declared.Answer.the-variants.{Refused}
 use Rattle.rules.specs.declared.Outcome.{Outcome}
 use Rattle.soundness.specs.Good.{good}
-use Rattle.tables.specs.Limits.{nobody}
-use Rattle.tables.specs.Readers.{currentOf}
+use Rattle.tables.specs.Readers.{currentOf, nobody}
 use Rattle.tables.specs.Test.{soundNow}
 use Rattle.tables.specs.declared.Tables.{Tables}
 use Rattle.scheduling.specs.Steps.{Meets, told}

@@ -7,7 +7,7 @@ use mathlib.Core.List.{List}
 use mathlib.Core.Path.{_≡_}
 use Rattle.lists.specs.Lists.{if_then_else_}
 use Rattle.tables.specs.Boot.{boot}
-use Rattle.tables.specs.Limits.{nobody}
+use Rattle.tables.specs.Readers.{nobody}
 use Rattle.layout.specs.Offsets.{size}
 use Rattle.layout.specs.Bytes.{toBytes, fromBytes, wellFormed}
 use Rattle.soundness.specs.Good.{good}

@@ -5,7 +5,8 @@ use mathlib.Core.List.{List, _∷_}
 use mathlib.Core.Logic.{_≢_}
 use mathlib.Core.Path.{_≡_}
 use lib.ListN.{getD}
-use Rattle.tables.specs.Limits.{nobody, processLimit}
+use Rattle.tables.specs.Limits.{processLimit}
+use Rattle.tables.specs.Readers.{nobody}
 use Rattle.soundness.specs.Good.{good}
 use Rattle.layout.specs.Bytes.{fromBytes}
 use Rattle.telling.specs.Reasons.{Reason, _given_, numberedReasons}

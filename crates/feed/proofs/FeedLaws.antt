@@ -1,6 +1,6 @@
 -- Laws of what is held and written, character by character. Assumes nothing.
 use Prim.Native.Nat.{ℕ, zero, suc, _+_, _*_, _/_, min, _≤_, _<_}
-use native.Mathlib.Nat.{le-div-iff-mul-le, min-le-right, min-eq-left, min-eq-right, min-zero, suc-min-suc}
+use native.Mathlib.Nat.{le-div-iff-mul-le, min-zero, suc-min-suc}
 use native.Mathlib.Numerals.{add-one}
 use native.Mathlib.Omega.{arith}
 use mathlib.Core.Path.{_≡_, refl, sym, _∙_}
@@ -10,7 +10,6 @@ use lib.Dec.{eqb}
 use lib.ListN.{length, take, set, length-append, length-take}
 use lib.Seq.{take-all, take-append-le, take-suc-set}
 use Rattle.lists.specs.Lists.{isEmpty}
-use Rattle.lists.proofs.Bools.{below?}
 use Rattle.lines.specs.Line.{lineOf}
 use Rattle.lines.specs.Answers.{answerLength, newline, answerTo, tablesAfter, textOf, over}
 use Rattle.lines.proofs.AnswerLaws.{text-length}
@@ -27,15 +26,6 @@ module _ (bytes : List ℕ) (count c : ℕ) (long : length bytes ≡ 19) where
   pub held-full : 19 ≤ count → take count bytes ≡ kept (take count bytes) c
   unfolding kept
   held-full h = rw (take-all count bytes (omega arith), take-append-le 19 bytes (c ∷ []) (omega arith), take-all 19 bytes (omega arith))
-
-pub take-least : (n : ℕ) (xs : List ℕ) → take (min n (length xs)) xs ≡ take n xs
-take-least n xs =
-    below? n (length xs)
-    (λ h. let k : n ≤ length xs = omega arith in rw (min-eq-left k))
-    (λ h. rw (min-eq-right h, take-all (length xs) xs (omega arith), take-all n xs h))
-
-pub least-long : (n : ℕ) (xs : List ℕ) → length (take (min n (length xs)) xs) ≡ min n (length xs)
-least-long n xs = length-take (min n (length xs)) xs ∙ min-eq-left (min-le-right n (length xs))
 
 -- with room for an answer to each character, all of them are taken
 pub taken-all : (cs out : List ℕ) → answerLength * length cs ≤ length out → taken cs out ≡ cs

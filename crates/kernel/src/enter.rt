@@ -1,5 +1,5 @@
 // A call by its number: 13, then 14 if an argument that the call doesn't use isn't 0, then the call's own checks.
-use order::counts::is_zero;
+use arguments::counts::is_zero;
 use processes::kill::kill;
 use processes::make_process::make_process;
 use processes::resume::resume;

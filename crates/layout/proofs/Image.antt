@@ -14,7 +14,7 @@ use mir.ValLaws.{ofZ-toZ, toZ-fits}
 use borrow.Author.Tests.{eq-eqb, eqb-true, lt-ltb, ltb-true}
 use Rattle.lists.specs.Numbers.{all, listed}
 use Rattle.tables.specs.Limits.{processLimit, semaphoreLimit}
-use Rattle.tables.specs.Readers.{countOf, freeSemaphore, freeSlot, isUsed, process, semaphore, stateOf}
+use Rattle.tables.specs.Readers.{countOf, freeSemaphore, freeSlot, isUsed, priorityOf, process, semaphore, stateOf}
 use Rattle.tables.specs.declared.Process.{Process}
 use Rattle.tables.specs.declared.Semaphore.{Semaphore}
 use Rattle.tables.specs.declared.Tables.{Tables}
@@ -52,6 +52,12 @@ module _ (bs : List ℕ) where
   pub process-said : (p : ℕ) → p < processLimit → process (fromBytes bs) p ≡ processAt bs p
   unfolding fromBytes
   process-said p h = listed-at (processAt bs) processLimit p freeSlot h
+
+  pub state-said : (p : ℕ) → p < processLimit → stateOf (fromBytes bs) p ≡ byteState (getD bs (statesAt + p) 0)
+  state-said p h = ap (λ (x : Process). x .state) (process-said p h)
+
+  pub priority-said : (p : ℕ) → p < processLimit → priorityOf (fromBytes bs) p ≡ getD bs (prioritiesAt + p) 0
+  priority-said p h = ap (λ (x : Process). x .priority) (process-said p h)
 
   pub semaphore-said : (s : ℕ) → s < semaphoreLimit → semaphore (fromBytes bs) s ≡ semaphoreAt bs s
   unfolding fromBytes
@@ -159,9 +165,6 @@ module _ (bs : List ℕ) (byte : (i : ℕ) → getD bs i 0 < 256) (wf : wellForm
   abbrev said : Tables
   said = fromBytes bs
 
-  state : (p : ℕ) → p < processLimit → stateOf said p ≡ byteState (getD bs (statesAt + p) 0)
-  state p h = ap (λ (x : Process). x .state) (process-said bs p h)
-
   count : (s : ℕ) → s < semaphoreLimit → countOf said s ≡ countAt bs s
   count s h = ap (λ (x : Semaphore). x .count) (semaphore-said bs s h)
 
@@ -174,7 +177,7 @@ module _ (bs : List ℕ) (byte : (i : ℕ) → getD bs i 0 < 256) (wf : wellForm
         slots = processes-long bs;
         entries = semaphores-long bs;
         places = order-long bs;
-        waits = λ p h. rw (state p h) (state-back (getD bs (statesAt + p) 0) (formed-state bs wf p h) .1);
+        waits = λ p h. rw (state-said bs p h) (state-back (getD bs (statesAt + p) 0) (formed-state bs wf p h) .1);
         fits = λ s. below? s semaphoreLimit (λ h. rw (count s h) (toZ-fits w32 _ (record { fits = word-small bs (countsAt + s * 4) byte }))) (past-fits said (semaphores-long bs) s);
         row = λ i h. rw (place-said bs i h) (formed-place bs wf i h);
       }
@@ -182,10 +185,10 @@ module _ (bs : List ℕ) (byte : (i : ℕ) → getD bs i 0 < 256) (wf : wellForm
   -- Each part
 
   state-kept : (p i : ℕ) → p < processLimit → i ≡ statesAt + p → getD bs i 0 ≡ byteOf said i
-  state-kept p i h e = sym (state-byte said p i h e ∙ ap stateByte (state p h) ∙ rw e (state-back (getD bs (statesAt + p) 0) (formed-state bs wf p h) .0))
+  state-kept p i h e = sym (state-byte said p i h e ∙ ap stateByte (state-said bs p h) ∙ rw e (state-back (getD bs (statesAt + p) 0) (formed-state bs wf p h) .0))
 
   priority-kept : (p i : ℕ) → p < processLimit → i ≡ prioritiesAt + p → getD bs i 0 ≡ byteOf said i
-  priority-kept p i h e = sym (priority-byte said p i h e ∙ ap (λ (x : Process). x .priority) (process-said bs p h) ∙ rw e refl)
+  priority-kept p i h e = sym (priority-byte said p i h e ∙ priority-said bs p h ∙ rw e refl)
 
   used-kept : (s i : ℕ) → s < semaphoreLimit → i ≡ usedAt + s → getD bs i 0 ≡ byteOf said i
   used-kept s i h e = sym (used-byte said s i h e ∙ ap (λ (x : Semaphore). usedByte (x .used)) (semaphore-said bs s h) ∙ rw e (used-back (getD bs (usedAt + s) 0) (formed-flag bs wf s h)))

@@ -1,9 +1,9 @@
 -- Laws of truth values, and the case splits that proofs are made with. Assumes nothing.
 use Prim.Native.Nat.{_<_, _≤_, ℕ}
-use mathlib.Core.Path.{_≡_, refl, sym}
+use mathlib.Core.Path.{_∙_, _≡_, refl, sym}
 use mathlib.Core.Bool.{Bool, _&&_, false, false≢true, not, true}
 use lib.Dec.{eqb, ltb}
-use borrow.Author.Tests.{eqb-false, eqb-true, ltb-false, ltb-true}
+use borrow.Author.Tests.{eqb-false, eqb-true, ltb-false, ltb-true, ne-eqb}
 
 -- a test holds or not
 pub split {ℓ} : {P : Type ℓ} (b : Bool) → (b ≡ true → P) → (b ≡ false → P) → P
@@ -41,3 +41,6 @@ not-true false h = refl
 pub not-false : (b : Bool) → not b ≡ false → b ≡ true
 not-false true h = refl
 not-false false h = sym h
+
+pub eqb-swap : (m n : ℕ) → eqb m n ≡ eqb n m
+eqb-swap m n = either m n (λ e. rw e refl) (λ d. ne-eqb m n d ∙ sym (ne-eqb n m (λ z. d (sym z))))

@@ -1,15 +1,17 @@
 -- Laws of the lists that the rules are written with. Assumes nothing.
-use Prim.Native.Nat.{_+_, _≤_, suc, ℕ}
+use Prim.Native.Nat.{_+_, _<_, _≤_, min, suc, ℕ}
+use native.Mathlib.Nat.{min-eq-left, min-eq-right, min-le-right}
 use native.Mathlib.Omega.{arith}
 use mathlib.Core.Path.{_∙_, _≡_, ap, fun-ext, refl, sym}
 use mathlib.Core.Logic.{_≢_}
 use mathlib.Core.Bool.{Bool, _&&_, _||_, false, not, true, and-true}
 use mathlib.Core.List.{List, [], _++_, _∷_, cons≢nil}
 use lib.Dec.{eqb}
-use lib.ListN.{length, replicate}
+use lib.ListN.{getD, length, length-take, replicate, set, take}
+use lib.Seq.{getD-set-other, getD-set-same, take-all}
 use borrow.Author.Tests.{eq-eqb, eqb-false, eqb-true, ne-eqb}
 use Rattle.lists.specs.Lists.{filter, if_then_else_, place, putBefore, takeOut, times, without}
-use Rattle.lists.proofs.Bools.{either, split}
+use Rattle.lists.proofs.Bools.{below?, either, split}
 
 -- filter
 
@@ -206,3 +208,20 @@ putBefore-ext test test′ p [] h = refl
 putBefore-ext test test′ p (x ∷ xs) h =
     let ih = putBefore-ext test test′ p xs h in
     split (eqb x p) (λ e. rw e ih) (λ e. rw (e, h x (eqb-false x p e), ih))
+
+-- a turn of a loop that fills an array
+pub filled-one : (f : ℕ → ℕ) (xs : List ℕ) (n v : ℕ) → n < length xs → ((k : ℕ) → k < n → getD xs k 0 ≡ f k) → v ≡ f n → (k : ℕ) → k < n + 1 → getD (set xs n v) k 0 ≡ f k
+filled-one f xs n v l so is k hk =
+    either k n
+    (λ e. rw e (getD-set-same xs n v 0 l ∙ is))
+    (λ d. getD-set-other xs n k v 0 d ∙ so k (omega arith))
+
+-- the first n, if there are so many
+pub take-least : (n : ℕ) (xs : List ℕ) → take (min n (length xs)) xs ≡ take n xs
+take-least n xs =
+    below? n (length xs)
+    (λ h. let k : n ≤ length xs = omega arith in rw (min-eq-left k))
+    (λ h. rw (min-eq-right h, take-all (length xs) xs (omega arith), take-all n xs h))
+
+pub least-long : (n : ℕ) (xs : List ℕ) → length (take (min n (length xs)) xs) ≡ min n (length xs)
+least-long n xs = length-take (min n (length xs)) xs ∙ min-eq-left (min-le-right n (length xs))

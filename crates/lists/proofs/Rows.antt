@@ -3,7 +3,7 @@ use Prim.Native.Nat.{ℕ, zero, suc, _+_, _≤_, _<_, _*_}
 use native.Mathlib.Nat.{suc-mul, mul-zero, mul-one, mul-add}
 use native.Mathlib.Numerals.{add-one}
 use native.Mathlib.Omega.{arith}
-use mathlib.Core.Bool.{Bool}
+use mathlib.Core.Bool.{Bool, false, true}
 use mathlib.Core.List.{List, [], _∷_}
 use mathlib.Core.Path.{_≡_, refl, sym, ap, _∙_}
 use lib.Dec.{eqb, ltb}
@@ -56,6 +56,28 @@ total-at-most (suc n) w m h =
     let k = h n (omega arith) in
     let d : suc n * m ≡ n * m + m = suc-mul n m in
     omega arith
+
+-- a sum in two parts
+pub total-join : (w : ℕ → ℕ) (n m : ℕ) → total n w + total m (λ p. w (n + p)) ≡ total (n + m) w
+unfolding total
+total-join w n zero = let e : n + 0 ≡ n = omega arith in rw e (omega arith)
+total-join w n (suc m) = let ih = total-join w n m in let e : n + suc m ≡ suc (n + m) = omega arith in rw e (omega arith)
+
+-- what a sum of those that pass is at most
+pub sum-small : (f : ℕ → Bool) (w : ℕ → ℕ) (i m : ℕ) → ((p : ℕ) → p < i → w p ≤ m) → total i (λ p. if f p then w p else 0) ≤ i * m
+sum-small f w i m h = total-at-most i (λ p. if f p then w p else 0) m (λ p k. one (f p) (w p) (h p k))
+  where
+    one : (b : Bool) (v : ℕ) → v ≤ m → (if b then v else 0) ≤ m
+    one true v k = k
+    one false v k = omega arith
+
+-- a turn of a loop that sums
+module _ (f : ℕ → Bool) (w : ℕ → ℕ) (i n : ℕ) (e : n ≡ total i (λ p. if f p then w p else 0)) where
+  pub sum-yes : f i ≡ true → n + w i ≡ total (i + 1) (λ p. if f p then w p else 0)
+  sum-yes h = ap (λ (k : ℕ). k + w i) e ∙ sym (total-next (λ p. if f p then w p else 0) i ∙ ap (λ (b : Bool). total i (λ p. if f p then w p else 0) + (if b then w i else 0)) h)
+
+  pub sum-no : f i ≡ false → n ≡ total (i + 1) (λ p. if f p then w p else 0)
+  sum-no h = e ∙ sym (total-next (λ p. if f p then w p else 0) i ∙ ap (λ (b : Bool). total i (λ p. if f p then w p else 0) + (if b then w i else 0)) h ∙ omega arith)
 
 pub total-at-least : (n : ℕ) (w : ℕ → ℕ) → ((p : ℕ) → p < n → 1 ≤ w p) → n ≤ total n w
 unfolding total

@@ -1,5 +1,3 @@
-pub mod CountLaws
-pub mod IndexLaws
 pub mod Found
 pub mod SearchLaws
 pub mod Moves

@@ -1,4 +1,2 @@
-pub mod Index
-pub mod Counts
 pub mod Row
 pub mod Search

@@ -11,9 +11,9 @@ use Rattle.layout.specs.Offsets.{statesAt}
 use Rattle.layout.specs.Stands.{Tells, Turns}
 use Rattle.lists.specs.Lists.{firstOr, isEmpty}
 use Rattle.lists.specs.Numbers.{roundFrom}
-use Rattle.order.specs.Index.{indexBelow}
+use Rattle.arguments.specs.Index.{indexBelow}
 use Rattle.order.specs.Search.{firstFree}
-use Rattle.order.specs.declared.index.Index.the-variants.{At, Outside}
+use Rattle.arguments.specs.declared.index.Index.the-variants.{At, Outside}
 use Rattle.rules.specs.Calls.{MakeProcess, onePast, outside, step}
 use Rattle.scheduling.specs.Steps.{Leads}
 use Rattle.scheduling.specs.declared.step.Step.the-variants.{Done, Refused}
@@ -24,7 +24,7 @@ use Rattle.tables.specs.States.{isFree}
 use Rattle.tables.specs.declared.Process.{Process}
 use Rattle.lists.proofs.ListLaws.{first-passes}
 use Rattle.order.proofs.Found.{first-none, first-some}
-use Rattle.order.proofs.IndexLaws.{no-number, number}
+use Rattle.arguments.proofs.IndexLaws.{no-number, number}
 use Rattle.order.proofs.SearchLaws.{first-slot}
 use Rattle.scheduling.proofs.RunningLaws.{slot-still}
 use Rattle.scheduling.proofs.StepLaws.{refuses}

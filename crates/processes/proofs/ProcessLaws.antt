@@ -7,9 +7,9 @@ use lib.IntN.{pos, sucℤ, ℤ}
 use lib.ListN.{drop, length}
 use borrow.Author.Tests.{eq-eqb, lt-leb, ne-eqb}
 use Rattle.layout.specs.Stands.{Stands, Tells, Turns}
-use Rattle.order.specs.Counts.{raise}
-use Rattle.order.specs.Index.{indexBelow}
-use Rattle.order.specs.declared.index.Index.the-variants.{At, Outside}
+use Rattle.arguments.specs.Counts.{raise}
+use Rattle.arguments.specs.Index.{indexBelow}
+use Rattle.arguments.specs.declared.index.Index.the-variants.{At, Outside}
 use Rattle.rules.specs.Answers.{refused}
 use Rattle.rules.specs.Calls.{Call, Kill, Resume, Suspend, Yield, checks, noProcess, nullProcess, step}
 use Rattle.rules.specs.Schedule.{makeReady}
@@ -26,8 +26,8 @@ use Rattle.tables.specs.declared.State.{State}
 use Rattle.tables.specs.declared.State.the-variants.{Current, Free, Ready, Suspended, Waiting}
 use Rattle.tables.specs.declared.Tables.{Tables}
 use Rattle.layout.proofs.Compose.{with-told}
-use Rattle.order.proofs.CountLaws.{raise-sound}
-use Rattle.order.proofs.IndexLaws.{no-number, number}
+use Rattle.arguments.proofs.CountLaws.{raise-sound}
+use Rattle.arguments.proofs.IndexLaws.{no-number, number}
 use Rattle.scheduling.proofs.RunningLaws.{ready-still, slot-still, slot-stopped, still}
 use Rattle.scheduling.proofs.StepLaws.{checks-refuse, refuses}
 use Rattle.tables.proofs.LineLaws.{live-once, live-slot}

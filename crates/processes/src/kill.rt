@@ -1,11 +1,11 @@
 // Call 09, kill a: the slot is free; a ready one leaves the list; a waiting one leaves its queue and that count goes up by 1; a reschedule follows only if it was current. Answers 1; refuses with 6, 10 and 7.
+use arguments::counts::raised;
+use arguments::index::Index;
+use arguments::index::index_below;
 use layout::fields::count;
 use layout::fields::process;
 use layout::fields::put_count;
 use layout::fields::put_process;
-use order::counts::raised;
-use order::index::Index;
-use order::index::index_below;
 use scheduling::step::Step;
 use tables::Process;
 use tables::State;
@@ -19,7 +19,7 @@ ghost use Rattle.tables.specs.Setters.{withCount, withProcess};
 ghost use Rattle.layout.specs.Offsets.{size};
 ghost use Rattle.layout.specs.Stands.{Turns};
 ghost use Rattle.rules.specs.Calls.{Kill, step};
-ghost use Rattle.order.specs.Counts.{raise};
+ghost use Rattle.arguments.specs.Counts.{raise};
 ghost use Rattle.scheduling.specs.Steps.{Leads};
 
 fn free_slot(bytes: &mut [u8], p: u8)

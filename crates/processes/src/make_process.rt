@@ -1,10 +1,10 @@
 // Call 06, make a process with priority a: the first free slot from the cursor on, going round; the cursor goes one past it; the process is suspended. Answers its number; refuses with 11 and 8.
+use arguments::index::Index;
+use arguments::index::index_below;
 use layout::fields::next_process;
 use layout::fields::put_next_process;
 use layout::fields::put_process;
 use layout::offsets::STATES;
-use order::index::Index;
-use order::index::index_below;
 use order::search::free_round;
 use order::search::one_past;
 use scheduling::step::Step;

@@ -1,7 +1,7 @@
 // Call 07, resume a: a suspended process becomes ready, then a reschedule follows. Answers its priority; refuses with 6, 7 and 9.
+use arguments::index::Index;
+use arguments::index::index_below;
 use layout::fields::process;
-use order::index::Index;
-use order::index::index_below;
 use scheduling::schedule::make_ready;
 use scheduling::step::Step;
 use tables::State;

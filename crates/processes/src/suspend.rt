@@ -1,8 +1,8 @@
 // Call 08, suspend a: a ready process leaves the list; the current one stops, and a reschedule follows. Answers its priority; refuses with 6, 10, 7 and 9.
+use arguments::index::Index;
+use arguments::index::index_below;
 use layout::fields::process;
 use layout::fields::put_state;
-use order::index::Index;
-use order::index::index_below;
 use scheduling::step::Step;
 use tables::State;
 use tables::Tables;

@@ -16,10 +16,10 @@ use borrow.Author.Tests.{le-ltb, lt-ltb, ltb-false, ltb-true, ne-eqb}
 use Rattle.layout.specs.Bytes.{countAt}
 use Rattle.lists.specs.Numbers.{all}
 use Rattle.tables.specs.Test.{countFits}
-use Rattle.lists.proofs.Bools.{and-in, and-no, below?, bool-iff, both, either}
+use Rattle.lists.proofs.Bools.{and-in, and-no, below?, bool-iff, both, either, eqb-swap}
 use Rattle.lists.proofs.NumberLaws.{all-at, all-true}
+use Rattle.lists.proofs.ListLaws.{filled-one}
 use Rattle.queues.specs.Squeeze.{Squeezed, blockLimit, capped, claimed, floored, squeezed}
-use Rattle.queues.proofs.Tally.{eqb-swap, filled-one}
 
 -- Cut off below and above, as the code reads a number back from its bits
 

@@ -1,7 +1,7 @@
 -- Who waits, by the state byte, and loops that sum, fill and tally, turn by turn. Assumes nothing.
 use Prim.Native.Nat.{_+_, _-_, _<_, _≤_, ℕ}
 use native.Mathlib.Omega.{arith}
-use mathlib.Core.Bool.{Bool, false, true}
+use mathlib.Core.Bool.{Bool, false}
 use mathlib.Core.List.{List}
 use mathlib.Core.Path.{_∙_, _≡_, ap, refl, sym}
 use lib.Dec.{eqb}
@@ -15,19 +15,12 @@ use Rattle.lists.specs.Numbers.{total}
 use Rattle.tables.specs.Limits.{processLimit, semaphoreLimit}
 use Rattle.tables.specs.Readers.{stateOf}
 use Rattle.tables.specs.States.{waitsOn}
-use Rattle.tables.specs.declared.Process.{Process}
 use Rattle.tables.specs.declared.Tables.{Tables}
-use Rattle.layout.proofs.Image.{process-said}
+use Rattle.layout.proofs.Image.{state-said}
 use Rattle.layout.proofs.Readers.{byte-waiting}
-use Rattle.lists.proofs.Bools.{below?, either}
-use Rattle.lists.proofs.Rows.{total-next, total-none}
+use Rattle.lists.proofs.Bools.{below?, either, eqb-swap}
+use Rattle.lists.proofs.Rows.{sum-no, sum-yes, total-none}
 use Rattle.queues.specs.Tallies.{Tallied, cellLimit, cellOf}
-
-pub state-said : (bs : List ℕ) (p : ℕ) → p < processLimit → stateOf (fromBytes bs) p ≡ byteState (getD bs (statesAt + p) 0)
-state-said bs p h = ap (λ (x : Process). x .state) (process-said bs p h)
-
-pub eqb-swap : (m n : ℕ) → eqb m n ≡ eqb n m
-eqb-swap m n = either m n (λ e. rw e refl) (λ d. ne-eqb m n d ∙ sym (ne-eqb n m (λ z. d (sym z))))
 
 -- who waits is counted at the semaphore, and nobody else
 waits-byte : (b s i : ℕ) → s < semaphoreLimit → waitsOn s (byteState b) ≡ eqb s (cellOf i b)
@@ -46,21 +39,6 @@ waits-byte b s i h =
 -- the same of a process
 pub waits-cell : (bs : List ℕ) (p i k : ℕ) → p < processLimit → k ≡ cellOf i (getD bs (statesAt + p) 0) → (s : ℕ) → s < semaphoreLimit → waitsOn s (stateOf (fromBytes bs) p) ≡ eqb s k
 waits-cell bs p i k hp e s h = ap (waitsOn s) (state-said bs p hp) ∙ waits-byte (getD bs (statesAt + p) 0) s i h ∙ ap (eqb s) (sym e)
-
--- a turn of a loop that sums
-module _ (f : ℕ → Bool) (w : ℕ → ℕ) (i n : ℕ) (e : n ≡ total i (λ p. if f p then w p else 0)) where
-  pub sum-yes : f i ≡ true → n + w i ≡ total (i + 1) (λ p. if f p then w p else 0)
-  sum-yes h = ap (λ (k : ℕ). k + w i) e ∙ sym (total-next (λ p. if f p then w p else 0) i ∙ ap (λ (b : Bool). total i (λ p. if f p then w p else 0) + (if b then w i else 0)) h)
-
-  pub sum-no : f i ≡ false → n ≡ total (i + 1) (λ p. if f p then w p else 0)
-  sum-no h = e ∙ sym (total-next (λ p. if f p then w p else 0) i ∙ ap (λ (b : Bool). total i (λ p. if f p then w p else 0) + (if b then w i else 0)) h ∙ omega arith)
-
--- a turn of a loop that fills an array
-pub filled-one : (f : ℕ → ℕ) (xs : List ℕ) (n v : ℕ) → n < length xs → ((k : ℕ) → k < n → getD xs k 0 ≡ f k) → v ≡ f n → (k : ℕ) → k < n + 1 → getD (set xs n v) k 0 ≡ f k
-filled-one f xs n v l so is k hk =
-    either k n
-    (λ e. rw e (getD-set-same xs n v 0 l ∙ is))
-    (λ d. getD-set-other xs n k v 0 d ∙ so k (omega arith))
 
 -- no cell is counted at more than once a turn
 few-more : (cells : List ℕ) (k n : ℕ) → k < length cells → ((j : ℕ) → getD cells j 0 ≤ n) → (j : ℕ) → getD (set cells k (getD cells k 0 + 1)) j 0 ≤ n + 1

@@ -7,8 +7,7 @@ use mathlib.Core.List.{List, [], _∷_}
 use mathlib.Core.Option.{Option, none, some}
 use Rattle.lists.specs.Lists.{if_then_else_}
 use Rattle.tables.specs.declared.Tables.{Tables}
-use Rattle.tables.specs.Limits.{nobody}
-use Rattle.tables.specs.Readers.{currentOf}
+use Rattle.tables.specs.Readers.{currentOf, nobody}
 use Rattle.tables.specs.Test.{soundNow}
 use Rattle.rules.specs.declared.Outcome.{Outcome}
 use Rattle.rules.specs.declared.Reply.{Reply}

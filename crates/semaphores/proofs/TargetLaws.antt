@@ -10,8 +10,8 @@ use mir.Val.{SFits, ofZ, toZ}
 use mir.ValLaws.{toZ-ofZ}
 use borrow.Author.Tests.{lt-leb}
 use Rattle.layout.specs.Stands.{Tells}
-use Rattle.order.specs.Index.{indexBelow}
-use Rattle.order.specs.declared.index.Index.the-variants.{At, Outside}
+use Rattle.arguments.specs.Index.{indexBelow}
+use Rattle.arguments.specs.declared.index.Index.the-variants.{At, Outside}
 use Rattle.rules.specs.Calls.{Call, Count, checks, noSemaphore, notUsed, step}
 use Rattle.scheduling.specs.Steps.{Leads}
 use Rattle.scheduling.specs.declared.step.Step.the-variants.{Done, Refused}
@@ -21,7 +21,7 @@ use Rattle.tables.specs.declared.Tables.{Tables}
 use Rattle.semaphores.specs.Target.{Chosen}
 use Rattle.semaphores.specs.declared.target.Target.{Target}
 use Rattle.semaphores.specs.declared.target.Target.the-variants.{Refusal, Used}
-use Rattle.order.proofs.IndexLaws.{no-number, number}
+use Rattle.arguments.proofs.IndexLaws.{no-number, number}
 use Rattle.scheduling.proofs.RunningLaws.{still}
 use Rattle.scheduling.proofs.StepLaws.{checks-refuse}
 

@@ -10,7 +10,7 @@ use borrow.Author.Tests.{lt-leb}
 use Rattle.layout.specs.Bytes.{waitingFrom}
 use Rattle.layout.specs.Stands.{Stands, Tells, Turns}
 use Rattle.lists.specs.Lists.{first, firstOr}
-use Rattle.order.specs.Counts.{lower, raise}
+use Rattle.arguments.specs.Counts.{lower, raise}
 use Rattle.order.specs.Row.{found}
 use Rattle.rules.specs.Calls.{Signal, Wait, below0, largest, step}
 use Rattle.rules.specs.Schedule.{makeReady, makeWait}
@@ -26,7 +26,7 @@ use Rattle.tables.specs.declared.State.the-variants.{Waiting}
 use Rattle.tables.specs.declared.Tables.{Tables}
 use Rattle.semaphores.specs.Target.{Chosen}
 use Rattle.semaphores.specs.declared.target.Target.the-variants.{Used}
-use Rattle.order.proofs.CountLaws.{lower-sound, somebody-waits}
+use Rattle.arguments.proofs.CountLaws.{lower-sound, somebody-waits}
 use Rattle.order.proofs.Found.{line-queue, told-nobody, told-somebody}
 use Rattle.scheduling.proofs.RunningLaws.{ready-still, still, wait-stopped}
 use Rattle.scheduling.proofs.StepLaws.{refuses}

@@ -1,9 +1,9 @@
 // Call 03, make a semaphore with count a: the first free entry from the cursor on, going round; the cursor goes one past it. Answers its number; refuses with 3 and 4.
+use arguments::counts::below_zero;
 use layout::fields::next_semaphore;
 use layout::fields::put_next_semaphore;
 use layout::fields::put_semaphore;
 use layout::offsets::USED;
-use order::counts::below_zero;
 use order::search::free_round;
 use order::search::one_past;
 use scheduling::step::Step;

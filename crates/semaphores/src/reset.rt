@@ -2,7 +2,7 @@
 use crate::release::release;
 use crate::target::Target;
 use crate::target::used_semaphore;
-use order::counts::below_zero;
+use arguments::counts::below_zero;
 use scheduling::step::Step;
 ghost use mathlib.Core.Path.{_≡_};
 ghost use lib.ListN.{length};

@@ -1,12 +1,12 @@
 // Call 02, signal a: the count plus 1; if the old count was below 0 the queue's head becomes ready, then a reschedule follows. Answers 1; refuses with 1, 2 and 5.
 use crate::target::Target;
 use crate::target::used_semaphore;
+use arguments::counts::below_zero;
+use arguments::counts::is_full;
+use arguments::counts::raised;
 use layout::fields::count;
 use layout::fields::put_count;
 use layout::state::WAITING;
-use order::counts::below_zero;
-use order::counts::is_full;
-use order::counts::raised;
 use order::row::find;
 use scheduling::schedule::make_ready;
 use scheduling::step::Step;

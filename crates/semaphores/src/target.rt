@@ -1,7 +1,7 @@
 // The first two checks of every call on a semaphore that is there.
+use arguments::index::Index;
+use arguments::index::index_below;
 use layout::fields::is_used;
-use order::index::Index;
-use order::index::index_below;
 use tables::Tables;
 ghost use mathlib.Core.Path.{_≡_};
 ghost use lib.ListN.{length};

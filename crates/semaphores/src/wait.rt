@@ -1,11 +1,11 @@
 // Call 01, wait a: the count minus 1; if the new count is below 0 the caller waits at the queue's tail, then a reschedule follows. Answers 1; refuses with 1, 2 and 10.
 use crate::target::Target;
 use crate::target::used_semaphore;
+use arguments::counts::below_zero;
+use arguments::counts::is_spent;
+use arguments::counts::lowered;
 use layout::fields::count;
 use layout::fields::put_count;
-use order::counts::below_zero;
-use order::counts::is_spent;
-use order::counts::lowered;
 use scheduling::schedule::make_wait;
 use scheduling::step::Step;
 ghost use mathlib.Core.Path.{_≡_};

@@ -54,5 +54,5 @@ fn main() {
     tables = after(tables, SIGNAL, 0);
     // A semaphore that isn't used, and one that isn't there.
     tables = after(tables, WAIT, 5);
-    after(tables, WAIT, 120);
+    after(tables, WAIT, Tables::SEMAPHORES as i32);
 }

@@ -13,12 +13,11 @@ use Rattle.lists.specs.Lists.{falls, filter, if_then_else_}
 use Rattle.tables.specs.Limits.{processLimit}
 use Rattle.tables.specs.Readers.{line, priorityOf, readyList, stateOf}
 use Rattle.tables.specs.States.{isReady}
-use Rattle.layout.proofs.Image.{order-long, place-said}
+use Rattle.layout.proofs.Image.{order-long, place-said, priority-said, state-said}
 use Rattle.lists.proofs.Bools.{either}
 use Rattle.lists.proofs.Walks.{falls-none, falls-on, falls-stop, filter-done, filter-in, filter-over}
-use Rattle.queues.proofs.Tally.{state-said}
 use Rattle.soundness.specs.Keys.{keyOf, latestOf}
-use Rattle.soundness.proofs.StateBytes.{priority-said, ready-byte}
+use Rattle.soundness.proofs.StateBytes.{ready-byte}
 
 -- the ready ones of those in a row
 abbrev ready : List ℕ → List ℕ → List ℕ

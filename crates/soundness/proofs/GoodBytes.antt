@@ -8,8 +8,7 @@ use lib.Dec.{eqb}
 use borrow.Author.Tests.{eq-eqb, ne-eqb}
 use Rattle.layout.specs.Bytes.{fromBytes, wellFormed}
 use Rattle.lists.specs.Lists.{if_then_else_}
-use Rattle.tables.specs.Limits.{nobody}
-use Rattle.tables.specs.Readers.{currentOf}
+use Rattle.tables.specs.Readers.{currentOf, nobody}
 use Rattle.tables.specs.Sound.{Sound}
 use Rattle.tables.specs.Test.{soundNow}
 use Rattle.lists.proofs.Bools.{both, either}

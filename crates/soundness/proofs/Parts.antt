@@ -12,22 +12,22 @@ use Rattle.layout.specs.Bytes.{fromBytes, wellFormed}
 use Rattle.layout.specs.Offsets.{prioritiesAt}
 use Rattle.lists.specs.Lists.{falls, if_then_else_}
 use Rattle.lists.specs.Numbers.{all, total}
-use Rattle.tables.specs.Limits.{nobody, priorityLimit, processLimit, semaphoreLimit}
-use Rattle.tables.specs.Readers.{currentOf, currents, line, priorityOf, process, queue, readyList, semaphore, stateOf}
+use Rattle.tables.specs.Limits.{priorityLimit, processLimit, semaphoreLimit}
+use Rattle.tables.specs.Readers.{currentOf, currents, line, priorityOf, process, queue, readyList, semaphore, stateOf, nobody}
 use Rattle.tables.specs.States.{isCurrent, isFree, isReady, waitsOn}
 use Rattle.tables.specs.Test.{semaphoresFit, nullFits, onceEach, readyFalls, semaphoreFits, shaped, slotFits, soundNow}
 use Rattle.tables.specs.declared.State.{State}
 use Rattle.tables.specs.declared.Tables.{Tables}
-use Rattle.layout.proofs.Image.{order-long, processes-long, semaphores-long}
+use Rattle.layout.proofs.Image.{order-long, priority-said, processes-long, semaphores-long}
 use Rattle.lists.proofs.Bools.{both, either}
 use Rattle.lists.proofs.NumberLaws.{all-at, all-ext}
-use Rattle.lists.proofs.Rows.{total-ext}
+use Rattle.lists.proofs.Rows.{total-ext, total-join}
 use Rattle.tables.proofs.Lines.{current-inside, current-sum, line-many}
 use Rattle.queues.specs.Tallies.{Tallied, countedFits, halfLimit}
 use Rattle.soundness.specs.Laid.{laidClauses}
 use Rattle.soundness.specs.Running.{runnerOf, soleOf, weightOf}
 use Rattle.soundness.specs.Sums.{manyOf}
-use Rattle.soundness.proofs.StateBytes.{names-all, priority-said}
+use Rattle.soundness.proofs.StateBytes.{names-all}
 
 and-group : (a b c d e f : Bool) → (a && (b && (c && (d && (e && f))))) ≡ ((a && (b && (c && (d && e)))) && f)
 and-group true true true true e f = refl
@@ -40,7 +40,7 @@ slot-small : (free : Bool) (n : ℕ) → (if free then eqb n 0 else (ltb 0 n && 
 slot-small true n h = let e = eqb-true n 0 h in omega arith
 slot-small false n h = leb-true n priorityLimit (both (ltb 0 n) _ h .1)
 
--- each that passes adds k and its number: k for each, and the numbers
+-- each that passes adds the limit and its number: the limit for each, and the numbers
 weighed : (f : ℕ → Bool) (n : ℕ) → total n (λ p. if f p then processLimit + p else 0) ≡ processLimit * total n (λ p. if f p then 1 else 0) + total n (λ p. if f p then p else 0)
 unfolding total
 weighed f zero = omega arith
@@ -59,12 +59,6 @@ numbers-light f (suc n) h = go (f n) _ _ (numbers-light f n (omega arith))
     go : (b : Bool) (m s : ℕ) → s + m ≤ processLimit * m → (s + (if b then n else 0)) + (m + (if b then 1 else 0)) ≤ processLimit * (m + (if b then 1 else 0))
     go true m s e = omega arith
     go false m s e = omega arith
-
--- a sum in two parts
-total-join : (w : ℕ → ℕ) (n m : ℕ) → total n w + total m (λ p. w (n + p)) ≡ total (n + m) w
-unfolding total
-total-join w n zero = let e : n + 0 ≡ n = omega arith in rw e (omega arith)
-total-join w n (suc m) = let ih = total-join w n m in let e : n + suc m ≡ suc (n + m) = omega arith in rw e (omega arith)
 
 -- the tallies of both halves are that of all
 halves : (t : Tables) (a b : List ℕ) → Tallied t 0 halfLimit a → Tallied t halfLimit halfLimit b → (s : ℕ) → s < semaphoreLimit → getD a s 0 + getD b s 0 ≡ manyOf t (waitsOn s)

@@ -1,34 +1,29 @@
 -- Tests of a state, as tests of its byte, and the current processes added up so. Assumes nothing.
 use Prim.Native.Nat.{_*_, _+_, _-_, _<_, _≤_, ℕ}
 use native.Mathlib.Omega.{arith}
-use mathlib.Core.Bool.{Bool, false, true}
+use mathlib.Core.Bool.{Bool, true}
 use mathlib.Core.List.{List}
 use mathlib.Core.Path.{_∙_, _≡_, ap, refl, sym}
 use lib.Dec.{eqb}
 use lib.ListN.{getD}
 use borrow.Author.Tests.{eq-eqb, lt-ltb, ne-eqb}
 use Rattle.layout.specs.Bytes.{byteState, fromBytes, waitingFrom, wellFormed}
-use Rattle.layout.specs.Offsets.{prioritiesAt, statesAt}
+use Rattle.layout.specs.Offsets.{statesAt}
 use Rattle.layout.specs.Stands.{Named}
 use Rattle.lists.specs.Lists.{if_then_else_}
-use Rattle.lists.specs.Numbers.{all, total}
+use Rattle.lists.specs.Numbers.{all}
 use Rattle.tables.specs.Limits.{processLimit, semaphoreLimit}
-use Rattle.tables.specs.Readers.{priorityOf, stateOf}
+use Rattle.tables.specs.Readers.{stateOf}
 use Rattle.tables.specs.States.{isCurrent, isFree, isReady}
 use Rattle.tables.specs.Test.{namesSemaphore}
-use Rattle.tables.specs.declared.Process.{Process}
 use Rattle.tables.specs.declared.State.{State}
 use Rattle.tables.specs.declared.State.the-variants.{Current, Free, Ready, Suspended, Waiting}
-use Rattle.layout.proofs.Image.{formed-state, process-said, state-back}
+use Rattle.layout.proofs.Image.{formed-state, state-back, state-said}
 use Rattle.layout.proofs.Readers.{byte-waiting}
 use Rattle.lists.proofs.Bools.{either}
 use Rattle.lists.proofs.NumberLaws.{all-true}
-use Rattle.lists.proofs.Rows.{total-at-most}
-use Rattle.queues.proofs.Tally.{state-said, sum-no, sum-yes}
-use Rattle.soundness.specs.Sums.{tally}
-
-pub priority-said : (bs : List ℕ) (p : ℕ) → p < processLimit → priorityOf (fromBytes bs) p ≡ getD bs (prioritiesAt + p) 0
-priority-said bs p h = ap (λ (x : Process). x .priority) (process-said bs p h)
+use Rattle.lists.proofs.Rows.{sum-no, sum-small, sum-yes}
+use Rattle.soundness.specs.Sums.{sumBelow}
 
 -- a test of the state is a test of the byte, if it is so for the four plain states and for any waiting one
 abbrev Agrees : (State → Bool) → ℕ → ℕ → Type 0
@@ -64,24 +59,16 @@ names-all bs wf =
     one Suspended n = refl
     one (Waiting s) n = lt-ltb s semaphoreLimit n
 
--- what a sum of those that pass is at most
-sum-small : (f : ℕ → Bool) (w : ℕ → ℕ) (i m : ℕ) → ((p : ℕ) → p < i → w p ≤ m) → total i (λ p. if f p then w p else 0) ≤ i * m
-sum-small f w i m h = total-at-most i (λ p. if f p then w p else 0) m (λ p k. one (f p) (w p) (h p k))
-  where
-    one : (b : Bool) (v : ℕ) → v ≤ m → (if b then v else 0) ≤ m
-    one true v k = k
-    one false v k = omega arith
-
 -- a turn of a loop that adds up the current processes
-module _ (bs : List ℕ) (w : ℕ → ℕ) (i n : ℕ) (h : i < processLimit) (e : n ≡ tally (fromBytes bs) isCurrent w i) where
+module _ (bs : List ℕ) (w : ℕ → ℕ) (i n : ℕ) (h : i < processLimit) (e : n ≡ sumBelow (fromBytes bs) isCurrent w i) where
   test : isCurrent (stateOf (fromBytes bs) i) ≡ eqb (getD bs (statesAt + i) 0) 1
   test = ap isCurrent (state-said bs i h) ∙ current-byte (getD bs (statesAt + i) 0)
 
-  pub current-more : getD bs (statesAt + i) 0 ≡ 1 → n + w i ≡ tally (fromBytes bs) isCurrent w (i + 1)
+  pub current-more : getD bs (statesAt + i) 0 ≡ 1 → n + w i ≡ sumBelow (fromBytes bs) isCurrent w (i + 1)
   current-more q = sum-yes (λ p. isCurrent (stateOf (fromBytes bs) p)) w i n e (test ∙ eq-eqb _ 1 q)
 
-  pub current-same : (getD bs (statesAt + i) 0 ≡ 1 → ⊥) → n ≡ tally (fromBytes bs) isCurrent w (i + 1)
+  pub current-same : (getD bs (statesAt + i) 0 ≡ 1 → ⊥) → n ≡ sumBelow (fromBytes bs) isCurrent w (i + 1)
   current-same q = sum-no (λ p. isCurrent (stateOf (fromBytes bs) p)) w i n e (test ∙ ne-eqb _ 1 q)
 
-pub currents-small : (bs : List ℕ) (w : ℕ → ℕ) (i m : ℕ) → ((p : ℕ) → p < i → w p ≤ m) → tally (fromBytes bs) isCurrent w i ≤ i * m
+pub currents-small : (bs : List ℕ) (w : ℕ → ℕ) (i m : ℕ) → ((p : ℕ) → p < i → w p ≤ m) → sumBelow (fromBytes bs) isCurrent w i ≤ i * m
 currents-small bs = sum-small (λ p. isCurrent (stateOf (fromBytes bs) p))

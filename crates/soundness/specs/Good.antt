@@ -3,8 +3,7 @@ use mathlib.Core.Bool.{Bool, _&&_}
 use mathlib.Core.List.{List}
 use Prim.Native.Nat.{ℕ}
 use Rattle.lists.specs.Lists.{if_then_else_}
-use Rattle.tables.specs.Limits.{nobody}
-use Rattle.tables.specs.Readers.{currentOf}
+use Rattle.tables.specs.Readers.{currentOf, nobody}
 use Rattle.tables.specs.Test.{soundNow}
 use Rattle.layout.specs.Bytes.{fromBytes, wellFormed}
 

@@ -4,11 +4,13 @@ use mathlib.Core.List.{List}
 use lib.Dec.{eqb}
 use lib.ListN.{getD}
 use Rattle.lists.specs.Lists.{if_then_else_}
+use Rattle.tables.specs.declared.State.the-variants.{Ready}
+use Rattle.layout.specs.Bytes.{stateByte}
 use Rattle.layout.specs.Offsets.{prioritiesAt, statesAt}
 
 -- a ready process as its priority and one, any other as 0
 abbrev pub keyFrom : ℕ → ℕ → ℕ
-keyFrom state priority = if eqb state 2 then priority + 1 else 0
+keyFrom state priority = if eqb state (stateByte Ready) then priority + 1 else 0
 
 -- that of process p in the bytes
 abbrev pub keyOf : List ℕ → ℕ → ℕ

@@ -6,14 +6,14 @@ use lib.ListN.{length}
 use Rattle.lists.specs.Lists.{if_then_else_}
 use Rattle.tables.specs.declared.State.{State}
 use Rattle.tables.specs.declared.Tables.{Tables}
-use Rattle.tables.specs.Limits.{nobody, processLimit}
-use Rattle.tables.specs.Readers.{currentOf, currents}
+use Rattle.tables.specs.Limits.{processLimit}
+use Rattle.tables.specs.Readers.{currentOf, currents, nobody}
 use Rattle.tables.specs.Test.{soundNow}
-use Rattle.soundness.specs.Sums.{tally}
+use Rattle.soundness.specs.Sums.{sumBelow}
 
 -- each that passes adds the limit and its number: one alone adds less than twice the limit
 abbrev pub weightOf : Tables → (State → Bool) → ℕ
-weightOf t test = tally t test (λ p. processLimit + p) processLimit
+weightOf t test = sumBelow t test (λ p. processLimit + p) processLimit
 
 -- the one that is current, if it is the only one
 abbrev pub soleOf : Tables → ℕ

@@ -8,10 +8,10 @@ use Rattle.tables.specs.declared.Tables.{Tables}
 use Rattle.tables.specs.Limits.{processLimit}
 use Rattle.tables.specs.Readers.{stateOf}
 
--- w over the numbers below n of the processes whose state passes the test
-abbrev pub tally : Tables → (State → Bool) → (ℕ → ℕ) → ℕ → ℕ
-tally t test w n = total n (λ p. if test (stateOf t p) then w p else 0)
+-- the sum of w over the numbers below n of the processes whose state passes the test
+abbrev pub sumBelow : Tables → (State → Bool) → (ℕ → ℕ) → ℕ → ℕ
+sumBelow t test w n = total n (λ p. if test (stateOf t p) then w p else 0)
 
 -- how many slots pass
 abbrev pub manyOf : Tables → (State → Bool) → ℕ
-manyOf t test = tally t test (λ p. 1) processLimit
+manyOf t test = sumBelow t test (λ p. 1) processLimit

@@ -12,7 +12,3 @@ semaphoreLimit = 120
 -- the highest priority
 abbrev pub priorityLimit : ℕ
 priorityLimit = 63
-
--- told as the process that runs where nobody is known to
-abbrev pub nobody : ℕ
-nobody = 255

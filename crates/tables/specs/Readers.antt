@@ -52,3 +52,7 @@ currents t = line t isCurrent
 
 abbrev pub currentOf : Tables → ℕ
 currentOf t = first (currents t)
+
+-- told as the process that runs where nobody is known to: no process has this number
+abbrev pub nobody : ℕ
+nobody = 255

@@ -5,8 +5,9 @@ use mathlib.Core.Path.{_≡_, sym, _∙_}
 use lib.ListN.{length, take, length-take}
 use Rattle.feed.specs.Feed.{Held, holding}
 use native.Mathlib.Nat.{min-le-right, min-eq-left}
-use Rattle.feed.proofs.FeedLaws.{serves-newline, take-least}
+use Rattle.feed.proofs.FeedLaws.{serves-newline}
 use borrow.Author.Needs.{needs}
+use Rattle.lists.proofs.ListLaws.{take-least}
 use Rattle.feed.proofs.feed.end_line.Statement.{statement}
 use Rattle.feed.proofs.feed.end_line.Tie as tie
 

@@ -6,9 +6,9 @@ use lib.ListN.{length}
 use Rattle.lines.specs.Answers.{answerLength}
 use Rattle.feed.specs.Feed.{taken}
 use native.Mathlib.Nat.{min-le-left, mul-div-le}
-use Rattle.feed.proofs.FeedLaws.{take-least, least-long}
 use Rattle.feed.proofs.Whole.{front-counts}
 use borrow.Author.Needs.{needs}
+use Rattle.lists.proofs.ListLaws.{least-long, take-least}
 use Rattle.feed.proofs.feed.feed.Statement.{statement}
 use Rattle.feed.proofs.feed.feed.Tie as tie
 

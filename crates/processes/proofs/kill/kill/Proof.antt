@@ -5,7 +5,7 @@ use Rattle.rules.specs.Calls.{Kill}
 use Rattle.tables.specs.declared.State.the-variants.{Free, Ready, Suspended}
 use Rattle.processes.proofs.kill.kill.Statement.{statement}
 use Rattle.processes.proofs.ProcessLaws.{kill-by, kill-current, kill-still, kill-waiting, killed, process-null, process-outside, refused-by}
-use Rattle.order.proofs.IndexLaws.{passed}
+use Rattle.arguments.proofs.IndexLaws.{passed}
 use Rattle.processes.proofs.kill.kill.Tie as tie
 
 returns : tie.Need-returns

@@ -4,7 +4,7 @@ use mir.ValLaws.{toZ-pos}
 use borrow.Author.Needs.{needs}
 use Rattle.processes.proofs.make_process.make_process.Statement.{statement}
 use Rattle.processes.proofs.MakeLaws.{make-11, make-11-null, make-8, make-process-done}
-use Rattle.order.proofs.IndexLaws.{passed}
+use Rattle.arguments.proofs.IndexLaws.{passed}
 use Rattle.processes.proofs.make_process.make_process.Tie as tie
 
 returns : tie.Need-returns

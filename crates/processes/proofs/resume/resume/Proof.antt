@@ -7,7 +7,7 @@ use Rattle.rules.specs.Calls.{Resume}
 use Rattle.tables.specs.declared.State.the-variants.{Current, Free, Ready}
 use Rattle.processes.proofs.resume.resume.Statement.{statement}
 use Rattle.processes.proofs.ProcessLaws.{process-outside, refused-by, resume-by, resume-done, resumed}
-use Rattle.order.proofs.IndexLaws.{passed}
+use Rattle.arguments.proofs.IndexLaws.{passed}
 use Rattle.processes.proofs.resume.resume.Tie as tie
 
 returns : tie.Need-returns

@@ -7,7 +7,7 @@ use Rattle.rules.specs.Calls.{Suspend}
 use Rattle.tables.specs.declared.State.the-variants.{Free, Suspended}
 use Rattle.processes.proofs.suspend.suspend.Statement.{statement}
 use Rattle.processes.proofs.ProcessLaws.{process-null, process-outside, refused-by, suspend-by, suspend-current, suspend-ready, suspended}
-use Rattle.order.proofs.IndexLaws.{passed}
+use Rattle.arguments.proofs.IndexLaws.{passed}
 use Rattle.processes.proofs.suspend.suspend.Tie as tie
 
 returns : tie.Need-returns

@@ -1,6 +1,6 @@
 use borrow.Author.Needs.{needs}
 use Rattle.semaphores.proofs.target.used_semaphore.Statement.{statement}
-use Rattle.order.proofs.IndexLaws.{passed}
+use Rattle.arguments.proofs.IndexLaws.{passed}
 use Rattle.semaphores.proofs.TargetLaws.{no-semaphore, unused-refused, used-chosen}
 use Rattle.semaphores.proofs.target.used_semaphore.Tie as tie
 

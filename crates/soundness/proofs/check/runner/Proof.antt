@@ -6,7 +6,8 @@ use mathlib.Core.List.{List}
 use mathlib.Core.Path.{_∙_, _≡_, sym}
 use borrow.Author.Needs.{needs}
 use Rattle.layout.specs.Bytes.{fromBytes, wellFormed}
-use Rattle.tables.specs.Limits.{nobody, processLimit}
+use Rattle.tables.specs.Limits.{processLimit}
+use Rattle.tables.specs.Readers.{nobody}
 use Rattle.tables.specs.Test.{semaphoresFit}
 use Rattle.layout.proofs.Image.{formed-long, formed-place}
 use Rattle.lists.proofs.Bools.{not-false, not-true}

@@ -6,7 +6,7 @@ use lib.ListN.{getD, length, length-set}
 use borrow.Author.Needs.{needs}
 use Rattle.layout.specs.Offsets.{size}
 use Rattle.tables.specs.Limits.{processLimit}
-use Rattle.queues.proofs.Tally.{filled-one}
+use Rattle.lists.proofs.ListLaws.{filled-one}
 use Rattle.soundness.specs.Keys.{keyOf}
 use Rattle.soundness.proofs.ready.keys.Statement.{statement}
 use Rattle.soundness.proofs.ready.keys.Tie as tie

@@ -10,13 +10,13 @@ use Rattle.layout.specs.Offsets.{size}
 use Rattle.tables.specs.Limits.{processLimit}
 use Rattle.tables.specs.States.{isCurrent}
 use Rattle.lists.proofs.Rows.{total-none}
-use Rattle.soundness.specs.Sums.{tally}
+use Rattle.soundness.specs.Sums.{sumBelow}
 use Rattle.soundness.proofs.running.weight.Statement.{statement}
 use Rattle.soundness.proofs.StateBytes.{current-more, current-same, currents-small}
 use Rattle.soundness.proofs.running.weight.Tie as tie
 
 abbrev Inv-loop : tie.InvT-loop
-Inv-loop bytes sum₀ i₀ sum i = (i ≤ processLimit) × (sum ≡ tally (fromBytes bytes) isCurrent (λ p. processLimit + p) i) × (length bytes ≡ size)
+Inv-loop bytes sum₀ i₀ sum i = (i ≤ processLimit) × (sum ≡ sumBelow (fromBytes bytes) isCurrent (λ p. processLimit + p) i) × (length bytes ≡ size)
 
 abbrev μ-loop : tie.MeasureT-loop
 μ-loop bytes sum₀ i₀ sum i = processLimit - i

@@ -4,9 +4,9 @@ use mathlib.Core.Bool.{false, true}
 use mir.Syntax.{w32}
 use mir.ValLaws.{toZ-ofZ}
 use borrow.Author.Needs.{needs}
-use Rattle.order.proofs.index.index_below.Statement.{statement}
-use Rattle.order.proofs.IndexLaws.{at-fits, at-here, at-neg, at-over, tested}
-use Rattle.order.proofs.index.index_below.Tie as tie
+use Rattle.arguments.proofs.index.index_below.Statement.{statement}
+use Rattle.arguments.proofs.IndexLaws.{at-fits, at-here, at-neg, at-over, tested}
+use Rattle.arguments.proofs.index.index_below.Tie as tie
 
 returns : tie.Need-returns
 returns c = at-neg (c .before .args .a) (c .before .args .limit) (tested (c .before .args .a) 0 true (c .before .fits .a) (omega arith) (c .if1 .taken))

@@ -1,6 +1,6 @@
-use Rattle.order.proofs.counts.is_zero.Statement.{statement}
-use Rattle.order.proofs.CountLaws.{back, zero-high, zero-low}
-use Rattle.order.proofs.counts.is_zero.Tie as tie
+use Rattle.arguments.proofs.counts.is_zero.Statement.{statement}
+use Rattle.arguments.proofs.CountLaws.{back, zero-high, zero-low}
+use Rattle.arguments.proofs.counts.is_zero.Tie as tie
 
 returns : tie.Need-returns
 returns c = zero-low (c .before .args .c) (rw (back (c .before .args .c) (c .before .fits .c)) at (c .if1 .taken))

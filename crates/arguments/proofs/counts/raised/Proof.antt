@@ -1,6 +1,6 @@
-use Rattle.order.proofs.counts.raised.Statement.{statement}
-use Rattle.order.proofs.CountLaws.{raise-fits, raise-full, raise-is}
-use Rattle.order.proofs.counts.raised.Tie as tie
+use Rattle.arguments.proofs.counts.raised.Statement.{statement}
+use Rattle.arguments.proofs.CountLaws.{raise-fits, raise-full, raise-is}
+use Rattle.arguments.proofs.counts.raised.Tie as tie
 
 returns : tie.Need-returns
 returns c = raise-full _ (c .before .fits .c) (c .if1 .taken)

@@ -12,9 +12,9 @@ use mir.ValLaws.{toZ-ofZ}
 use borrow.Author.Tests.{le-leb, ltb-false, ltb-true}
 use Rattle.rules.specs.Calls.{outside}
 use Rattle.lists.proofs.Bools.{split}
-use Rattle.order.specs.Index.{indexBelow}
-use Rattle.order.specs.declared.index.Index.{Index}
-use Rattle.order.specs.declared.index.Index.the-variants.{At, Outside}
+use Rattle.arguments.specs.Index.{indexBelow}
+use Rattle.arguments.specs.declared.index.Index.{Index}
+use Rattle.arguments.specs.declared.index.Index.the-variants.{At, Outside}
 
 -- a test of an argument against a byte speaks of the bits of both; it is a test of the numbers
 pub tested : (z : ℤ) (m : ℕ) (b : Bool) → SFits w32 z → m < 256 → ltZ (toZ w32 (ofZ w32 z)) (toZ w32 (ofZ w32 (pos m))) ≡ b → ltZ z (pos m) ≡ b

@@ -1,6 +1,6 @@
-use Rattle.order.proofs.counts.lowered.Statement.{statement}
-use Rattle.order.proofs.CountLaws.{lower-fits, lower-full, lower-is}
-use Rattle.order.proofs.counts.lowered.Tie as tie
+use Rattle.arguments.proofs.counts.lowered.Statement.{statement}
+use Rattle.arguments.proofs.CountLaws.{lower-fits, lower-full, lower-is}
+use Rattle.arguments.proofs.counts.lowered.Tie as tie
 
 returns : tie.Need-returns
 returns c = lower-full _ (c .before .fits .c) (c .if1 .taken)

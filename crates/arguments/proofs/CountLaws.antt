@@ -23,7 +23,7 @@ use Rattle.tables.specs.declared.Tables.{Tables}
 use Rattle.lists.proofs.Bools.{either, split}
 use Rattle.lists.proofs.ListLaws.{times-empty}
 use Rattle.tables.proofs.Sentences.{few-wait, sentences}
-use Rattle.order.specs.Counts.{lower, raise}
+use Rattle.arguments.specs.Counts.{lower, raise}
 
 -- Tests
 

@@ -1,6 +1,6 @@
 // An argument as the number of an entry.
 ghost use mathlib.Core.Path.{_≡_};
-ghost use Rattle.order.specs.Index.{indexBelow};
+ghost use Rattle.arguments.specs.Index.{indexBelow};
 
 pub enum Index {
     At(u8),

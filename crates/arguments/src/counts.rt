@@ -4,7 +4,7 @@ ghost use lib.IntN.{pos};
 ghost use lib.Signed.{leZ};
 ghost use Rattle.rules.specs.Calls.{below0, largest};
 ghost use Rattle.rules.specs.Enter.{isZero};
-ghost use Rattle.order.specs.Counts.{raise, lower};
+ghost use Rattle.arguments.specs.Counts.{raise, lower};
 
 pub fn below_zero(c: i32) -> bool
     ensures { λ r. ⌜ r ≡ below0 c ⌝ }
