@@ -7,3 +7,5 @@ pub mod Rows
 pub mod RoundLaws
 pub mod Bits
 pub mod Walks
+pub mod Places
+pub mod Filled

@@ -10,9 +10,10 @@ use lib.Dec.{eqb, ltb}
 use lib.ListN.{length, getD}
 use borrow.Author.Tests.{eq-eqb, ne-eqb, lt-ltb, le-ltb, eqb-true}
 use Rattle.lists.specs.Lists.{if_then_else_, filter, times, sum, firstOr, first}
-use Rattle.lists.specs.Numbers.{total}
+use Rattle.lists.specs.Numbers.{countUp, total}
 use Rattle.lists.proofs.Bools.{split, either, below?}
 use Rattle.lists.proofs.ListLaws.{times-cons}
+use Rattle.lists.proofs.NumberLaws.{listed-at, listed-length}
 
 -- Sums over the numbers below n
 
@@ -182,3 +183,11 @@ row-all n xs l h k =
     let sums : total n (λ p. 1 * times p xs) ≡ length xs = weighed (λ p. 1) n xs h ∙ sum-ones xs in
     let plain : total n (λ p. times p xs) ≡ n = total-ext n (λ p. times p xs) (λ p. 1 * times p xs) (λ p k. omega arith) ∙ sums ∙ l in
     record { inside = h; once = ones n (λ p. times p xs) k plain }
+
+-- the numbers below n, counted up
+pub row-countUp : (n : ℕ) → Row n (countUp 0 n)
+row-countUp n =
+    let long : length (countUp 0 n) ≡ n = listed-length (λ i. i) 0 n in
+    row-all n (countUp 0 n) long
+    (within n (countUp 0 n) (λ i k. let h : i < n = omega arith in rw (listed-at (λ j. j) n i 0 h) h))
+    (λ p k. let h : p < length (countUp 0 n) = omega arith in rw (listed-at (λ j. j) n p 0 k) at (times-at (countUp 0 n) p h))

@@ -1,8 +1,9 @@
 -- Words on lists of numbers. Each recursive call is bound before the choice, so that a run over 32 or 120 entries computes.
-use Prim.Native.Nat.{ℕ, suc, _+_, _≤_}
+use Prim.Native.Nat.{ℕ, zero, suc, _+_, _≤_}
 use mathlib.Core.Bool.{Bool, true, false, not, _&&_}
 use mathlib.Core.List.{List, [], _∷_}
 use lib.Dec.{eqb, leb}
+use lib.ListN.{drop, take}
 
 infixr 1 if_then_else_
 abbrev pub if_then_else_ {ℓ} : {A : Type ℓ} → Bool → A → A → A
@@ -38,6 +39,18 @@ putBefore test p (x ∷ xs) =
 -- p taken out and put back so
 unfoldable pub place : (ℕ → Bool) → ℕ → List ℕ → List ℕ
 place test p xs = putBefore test p (takeOut p xs)
+
+-- the place of p in a list, counted from 1; one past the last where it isn't there
+unfoldable pub placeIn : ℕ → List ℕ → ℕ
+placeIn p [] = 1
+placeIn p (x ∷ xs) =
+    let later : ℕ = suc (placeIn p xs) in
+    if eqb x p then 1 else later
+
+-- who stands at a place, counted from 1; nobody past the last
+abbrev pub atPlace : ℕ → List ℕ → List ℕ
+atPlace zero xs = []
+atPlace (suc k) xs = take 1 (drop k xs)
 
 -- how many times p stands in a list
 unfoldable pub times : ℕ → List ℕ → ℕ

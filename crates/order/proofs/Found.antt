@@ -1,18 +1,16 @@
 -- Who is found first in the row by the byte of a state, and the lines that such a search speaks of. Assumes nothing.
 use Prim.Native.Nat.{_+_, _<_, _≤_, suc, ℕ}
-use native.Mathlib.Numerals.{add-one}
 use native.Mathlib.Omega.{arith}
 use mathlib.Core.Bool.{Bool, false, true}
 use mathlib.Core.List.{List, [], _∷_}
 use mathlib.Core.Path.{_∙_, _≡_, ap, refl, subst, sym}
 use lib.Dec.{ltb}
-use lib.ListN.{drop, drop-of-length-le, getD, length}
-use lib.Seq.{drop-cons}
+use lib.ListN.{drop, getD, length}
 use borrow.Author.Tests.{eq-eqb, lt-ltb, ne-eqb}
 use Rattle.layout.specs.Bytes.{noState, stateByte, waitingFrom}
 use Rattle.layout.specs.Offsets.{statesAt}
 use Rattle.layout.specs.Stands.{Stands, Tells}
-use Rattle.lists.specs.Lists.{filter, firstOr}
+use Rattle.lists.specs.Lists.{filter, firstOr, placeIn}
 use Rattle.tables.specs.Limits.{processLimit, semaphoreLimit}
 use Rattle.tables.specs.Readers.{line, queue, readyList, stateOf}
 use Rattle.tables.specs.States.{isCurrent, isReady, waitsOn}
@@ -22,40 +20,94 @@ use Rattle.tables.specs.declared.Tables.{Tables}
 use Rattle.layout.proofs.Readers.{state-stands}
 use Rattle.lists.proofs.Bools.{either, split}
 use Rattle.lists.proofs.ListLaws.{filter-ext}
-use Rattle.order.specs.Row.{byByte, found}
+use Rattle.lists.proofs.Places.{place-here, place-none, place-on}
+use Rattle.lists.proofs.Walks.{filter-done, filter-in, filter-over}
+use Rattle.order.specs.Row.{byByte, found, placeAmong}
 
 -- the state byte of who stands at place i
 pub place-byte : (bs : List ℕ) (i q : ℕ) → i < processLimit → Tells (λ t. getD (t .order) i 0) bs q → (t : Tables) → Stands t bs → getD bs (statesAt + q) 0 ≡ stateByte (stateOf t (getD (t .order) i 0))
 unfolding Tells
 place-byte bs i q h at t st = ap (λ (z : ℕ). getD bs (statesAt + z) 0) (at t st) ∙ state-stands t bs st (getD (t .order) i 0) (st .held .row i h)
 
+-- Those of byte b in the row, from place i on
+
+abbrev pub onward : ℕ → Tables → ℕ → List ℕ
+onward b t i = filter (λ p. byByte b (stateOf t p)) (drop i (t .order))
+
+module _ (b : ℕ) (bs : List ℕ) (t : Tables) (st : Stands t bs) where
+  pub onward-all : onward b t 0 ≡ line t (byByte b)
+  unfolding line
+  onward-all = refl
+
+  module _ (i q : ℕ) (h : i < processLimit) (at : Tells (λ t. getD (t .order) i 0) bs q) where
+    long : i < length (t .order)
+    long = omega (arith, st .held .places)
+
+    pub onward-in : getD bs (statesAt + q) 0 ≡ b → onward b t i ≡ q ∷ onward b t (i + 1)
+    unfolding Tells
+    onward-in e =
+        filter-in (λ p. byByte b (stateOf t p)) (t .order) i long (eq-eqb _ b (sym (place-byte bs i q h at t st) ∙ e))
+        ∙ ap (λ (x : ℕ). x ∷ onward b t (i + 1)) (sym (at t st))
+
+    pub onward-over : (getD bs (statesAt + q) 0 ≡ b → ⊥) → onward b t i ≡ onward b t (i + 1)
+    onward-over e = filter-over (λ p. byByte b (stateOf t p)) (t .order) i long (ne-eqb _ b (λ z. e (place-byte bs i q h at t st ∙ z)))
+
+  pub onward-none : (i : ℕ) → processLimit ≤ i → onward b t i ≡ []
+  onward-none i h = filter-done (λ p. byByte b (stateOf t p)) (t .order) i (omega (arith, st .held .places))
+
 -- from place i on the search finds what it finds from the start
 unfoldable pub Scans : ℕ → ℕ → List ℕ → Type 0
-Scans b i bs = (t : Tables) → Stands t bs → firstOr processLimit (filter (λ p. byByte b (stateOf t p)) (drop i (t .order))) ≡ found b t
+Scans b i bs = (t : Tables) → Stands t bs → firstOr processLimit (onward b t i) ≡ found b t
 
 module _ (b : ℕ) (bs : List ℕ) where
   pub scan-start : Scans b 0 bs
-  unfolding Scans line
-  scan-start t st = refl
+  unfolding Scans
+  scan-start t st = ap (firstOr processLimit) (onward-all b bs t st)
 
   module _ (i q : ℕ) (h : i < processLimit) (at : Tells (λ t. getD (t .order) i 0) bs q) (s : Scans b i bs) where
     pub scan-here : getD bs (statesAt + q) 0 ≡ b → Tells (found b) bs q
-    unfolding Tells Scans filter firstOr
-    scan-here e t st =
-        let long : i < length (t .order) = omega (arith, st .held .places) in
-        let is : byByte b (stateOf t (getD (t .order) i 0)) ≡ true = eq-eqb _ b (sym (place-byte bs i q h at t st) ∙ e) in
-        at t st ∙ (rw (drop-cons (t .order) i 0 long, is) at (s t st))
+    unfolding Tells Scans firstOr
+    scan-here e t st = rw (onward-in b bs t st i q h at e) at (s t st)
 
     pub scan-on : (getD bs (statesAt + q) 0 ≡ b → ⊥) → Scans b (i + 1) bs
-    unfolding Scans filter firstOr
-    scan-on e t st =
-        let long : i < length (t .order) = omega (arith, st .held .places) in
-        let is : byByte b (stateOf t (getD (t .order) i 0)) ≡ false = ne-eqb _ b (λ z. e (place-byte bs i q h at t st ∙ z)) in
-        rw add-one (rw (drop-cons (t .order) i 0 long, is) at (s t st))
+    unfolding Scans
+    scan-on e t st = ap (firstOr processLimit) (sym (onward-over b bs t st i q h at e)) ∙ s t st
 
   pub scan-end : (i : ℕ) → processLimit ≤ i → Scans b i bs → Tells (found b) bs processLimit
-  unfolding Tells Scans filter firstOr
-  scan-end i h s t st = rw (drop-of-length-le (t .order) {i = i} (omega (arith, st .held .places))) at (s t st)
+  unfolding Tells Scans firstOr
+  scan-end i h s t st = rw (onward-none b bs t st i h) at (s t st)
+
+-- from place i on the count goes from n to the place of p
+unfoldable pub Counts : ℕ → ℕ → ℕ → ℕ → List ℕ → Type 0
+Counts b p i n bs = (t : Tables) → Stands t bs → n + placeIn p (onward b t i) ≡ suc (placeAmong b p t)
+
+module _ (b p : ℕ) (bs : List ℕ) where
+  pub count-start : Counts b p 0 1 bs
+  unfolding Counts
+  count-start t st = rw (onward-all b bs t st) (omega arith)
+
+  module _ (i n q : ℕ) (h : i < processLimit) (at : Tells (λ t. getD (t .order) i 0) bs q) (c : Counts b p i n bs) where
+    pub count-here : getD bs (statesAt + q) 0 ≡ b → q ≡ p → Tells (placeAmong b p) bs n
+    unfolding Tells Counts
+    count-here e d t st =
+        let one : placeIn p (onward b t i) ≡ 1 = ap (placeIn p) (onward-in b bs t st i q h at e ∙ ap (λ (x : ℕ). x ∷ onward b t (i + 1)) d) ∙ place-here p (onward b t (i + 1)) in
+        omega (arith, c t st, one)
+
+    pub count-past : getD bs (statesAt + q) 0 ≡ b → (q ≡ p → ⊥) → Counts b p (i + 1) (n + 1) bs
+    unfolding Counts
+    count-past e d t st =
+        let more : placeIn p (onward b t i) ≡ suc (placeIn p (onward b t (i + 1))) = ap (placeIn p) (onward-in b bs t st i q h at e) ∙ place-on p q (onward b t (i + 1)) d in
+        omega (arith, c t st, more)
+
+    pub count-over : (getD bs (statesAt + q) 0 ≡ b → ⊥) → Counts b p (i + 1) n bs
+    unfolding Counts
+    count-over e t st = ap (λ (l : List ℕ). n + placeIn p l) (sym (onward-over b bs t st i q h at e)) ∙ c t st
+
+  pub count-end : (i n : ℕ) → processLimit ≤ i → Counts b p i n bs → Tells (placeAmong b p) bs n
+  unfolding Tells Counts
+  count-end i n h c t st =
+      let one : placeIn p (onward b t i) ≡ 1 = ap (placeIn p) (onward-none b bs t st i h) ∙ place-none p in
+      omega (arith, c t st, one)
 
 -- A line by the byte of the state
 

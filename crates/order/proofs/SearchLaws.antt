@@ -85,7 +85,7 @@ past-next limit n e = rw (ne-eqb (suc n) limit (λ z. e (omega arith))) (omega a
 
 -- Over the tables
 
-free-byte : (s : State) → eqb (stateByte s) 0 ≡ isFree s
+pub free-byte : (s : State) → eqb (stateByte s) 0 ≡ isFree s
 free-byte Free = refl
 free-byte Current = refl
 free-byte Ready = refl

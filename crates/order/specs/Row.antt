@@ -7,7 +7,7 @@ use lib.Dec.{eqb, ltb}
 use lib.ListN.{drop, getD, take}
 use Rattle.layout.specs.Bytes.{stateByte}
 use Rattle.layout.specs.Stands.{Stands}
-use Rattle.lists.specs.Lists.{firstOr, place, putBefore, takeOut}
+use Rattle.lists.specs.Lists.{firstOr, place, placeIn, putBefore, takeOut}
 use Rattle.tables.specs.Limits.{processLimit}
 use Rattle.tables.specs.Readers.{line, priorityOf, stateOf}
 use Rattle.tables.specs.Setters.{withOrder}
@@ -22,6 +22,10 @@ byByte b st = eqb (stateByte st) b
 -- the first in the row whose state is byte b
 abbrev pub found : ℕ → Tables → ℕ
 found b t = firstOr processLimit (line t (byByte b))
+
+-- the place of p among those whose state is byte b, counted from 1
+abbrev pub placeAmong : ℕ → ℕ → Tables → ℕ
+placeAmong b p t = placeIn p (line t (byByte b))
 
 -- a ready process below the level
 abbrev pub below : ℕ → Tables → ℕ → Bool

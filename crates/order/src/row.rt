@@ -13,7 +13,7 @@ ghost use Rattle.tables.specs.States.{isReady};
 ghost use Rattle.tables.specs.Setters.{withOrder};
 ghost use Rattle.layout.specs.Offsets.{size};
 ghost use Rattle.layout.specs.Stands.{Turns, Tells};
-ghost use Rattle.order.specs.Row.{found, below, placed, risen, sunk, Spotted};
+ghost use Rattle.order.specs.Row.{found, placeAmong, below, placed, risen, sunk, Spotted};
 
 // The answer of a search that finds nobody.
 pub const NOBODY: u8 = Tables::PROCESSES as u8;
@@ -34,6 +34,26 @@ pub fn find(bytes: &[u8], b: u8) -> u8
         i = i + 1;
     }
     NOBODY
+}
+
+// The place of `p` among those in the row whose state is this byte, counted from 1.
+pub fn place_among(bytes: &[u8], p: u8, b: u8) -> u8
+    requires { ⌜ length (now bytes) ≡ size ⌝ }
+    ensures { λ r. ⌜ Tells (placeAmong b p) (now (bytes .entry)) r ⌝ }
+{
+    let mut n = 1u8;
+    let mut i: usize = 0;
+    while i < Tables::PROCESSES {
+        let q = place(bytes, i);
+        if bytes[STATES + q as usize] == b {
+            if q == p {
+                return n;
+            }
+            n = n + 1;
+        }
+        i = i + 1;
+    }
+    n
 }
 
 fn is_ready(state: State) -> bool

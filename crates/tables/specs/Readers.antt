@@ -2,15 +2,17 @@
 use Prim.Native.Nat.{ℕ}
 use lib.ListN.{getD}
 use lib.IntN.{ℤ, pos}
-use mathlib.Core.Bool.{Bool, false}
+use mathlib.Core.Bool.{Bool, false, not}
 use mathlib.Core.List.{List}
-use Rattle.lists.specs.Lists.{filter, first}
+use Rattle.lists.specs.Lists.{filter, first, placeIn}
+use Rattle.lists.specs.Numbers.{countUp}
 use Rattle.tables.specs.declared.State.{State}
 use Rattle.tables.specs.declared.State.the-variants.{Free}
 use Rattle.tables.specs.declared.Process.{Process}
 use Rattle.tables.specs.declared.Semaphore.{Semaphore}
 use Rattle.tables.specs.declared.Tables.{Tables}
-use Rattle.tables.specs.States.{isCurrent, isReady, waitsOn}
+use Rattle.tables.specs.Limits.{processLimit}
+use Rattle.tables.specs.States.{isCurrent, isFree, isReady, waitsOn}
 
 abbrev pub freeSlot : Process
 freeSlot = record { state = Free; priority = 0 }
@@ -45,6 +47,14 @@ readyList t = line t isReady
 
 abbrev pub queue : Tables → ℕ → List ℕ
 queue t s = line t (waitsOn s)
+
+-- the place of p in the queue of s, counted from 1
+abbrev pub placeOf : Tables → ℕ → ℕ → ℕ
+placeOf t p s = placeIn p (queue t s)
+
+-- the live processes, in rising number
+unfoldable pub live : Tables → List ℕ
+live t = filter (λ p. not (isFree (stateOf t p))) (countUp 0 processLimit)
 
 -- the process that is current: a list of one, or of none between two steps of a call
 abbrev pub currents : Tables → List ℕ
