@@ -70,9 +70,9 @@ module _ {t : Tables} (S : Sound t) (s : ℕ) where
 
   -- nobody is shown at a place where no waiter stands
   shown-nobody : (k : ℕ) → ((p : ℕ) → waitsOn s (stateOf t p) ≡ true → placeIn p q ≡ k → ⊥) → shownAt (rows t) s k ≡ []
-  shown-nobody k no =
+  shown-nobody k nobody =
       shown-filter k
-      ∙ filter-no (test k) (countUp 0 processLimit) (λ p. split (waitsOn s (stateOf t p)) (λ e. rw e (ne-eqb (placeIn p q) k (no p e))) (λ e. rw e))
+      ∙ filter-no (test k) (countUp 0 processLimit) (λ p. split (waitsOn s (stateOf t p)) (λ e. rw e (ne-eqb (placeIn p q) k (nobody p e))) (λ e. rw e))
 
   module _ (k : ℕ) (h : k < length q) where
     abbrev x : ℕ

@@ -1,25 +1,39 @@
 -- What a row says of the process whose row it is. Assumes nothing.
 use Prim.Native.Nat.{_<_, ℕ}
+use mathlib.Core.Bool.{true}
 use mathlib.Core.List.{List}
+use mathlib.Core.Option.{none}
 use mathlib.Core.Path.{_∙_, _≡_, ap}
+use lib.ListN.{getD}
 use borrow.Author.Tests.{lt-ltb}
-use Rattle.layout.specs.Bytes.{stateByte, waitingFrom}
+use Rattle.layout.specs.Bytes.{fromBytes, stateByte, wellFormed}
 use Rattle.layout.specs.Stands.{Named, Tells}
 use Rattle.lists.specs.Lists.{placeIn}
 use Rattle.order.specs.Row.{placeAmong}
 use Rattle.tables.specs.Limits.{processLimit, semaphoreLimit}
-use Rattle.tables.specs.Readers.{placeOf, process}
+use Rattle.tables.specs.Readers.{live, process}
 use Rattle.tables.specs.States.{awaits}
 use Rattle.tables.specs.declared.Process.{Process}
+use Rattle.tables.specs.declared.State.{State}
 use Rattle.tables.specs.declared.State.the-variants.{Waiting}
+use Rattle.layout.proofs.Image.{stands-read}
 use Rattle.order.proofs.Found.{line-queue}
-use Rattle.status.specs.Rows.{awaitedShown, placeShown, rowOf, stateNumber}
+use Rattle.status.specs.declared.Row.{Row}
+use Rattle.status.specs.Rows.{awaitedShown, placeShown, rowAt, rowOf, stateNumber}
 
--- the place among those with its byte is the place in the queue
-pub place-tells : (bs : List ℕ) (p s b r : ℕ) → b ≡ stateByte (Waiting s) → Tells (placeAmong b p) bs r → s < semaphoreLimit → Tells (λ t. placeOf t p s) bs r
-unfolding Tells
-place-tells bs p s b r e told h t st =
-    told t st ∙ ap (λ (c : ℕ). placeAmong c p t) (e ∙ rw (lt-ltb s semaphoreLimit h)) ∙ ap (placeIn p) (line-queue t s h)
+-- Its place, by its state
+
+module _ (bs : List ℕ) (p : ℕ) (st : State) where
+  pub place-of-none : awaits st ≡ none → Named st → Tells (λ t. placeShown t p (awaits st)) bs 0
+  unfolding Tells
+  place-of-none e named t stands = rw e
+
+  -- the place among those with its byte is the place in the queue
+  pub place-of-waiter : (s b r : ℕ) → st ≡ Waiting s → b ≡ stateByte st → Tells (placeAmong b p) bs r → Named st → Tells (λ t. placeShown t p (awaits st)) bs r
+  unfolding Tells
+  place-of-waiter s b r e eb told named t stands =
+      let h : s < semaphoreLimit = rw e at named in
+      rw e (told t stands ∙ ap (λ (c : ℕ). placeAmong c p t) (eb ∙ rw (e, lt-ltb s semaphoreLimit h)) ∙ ap (placeIn p) (line-queue t s h))
 
 -- a row, by what was read of the slot
 module _ (bs : List ℕ) (p : ℕ) (x : Process) (n a k : ℕ) where
@@ -30,3 +44,12 @@ module _ (bs : List ℕ) (p : ℕ) (x : Process) (n a k : ℕ) where
       let e : x ≡ process t p = slot h t st in
       let named : Named (x .state) = rw e (st .held .waits p h) in
       rw (en, ea, ek named t st, e)
+
+-- in well-formed bytes that is the row of the tables that they stand for
+pub row-at-is : (bs : List ℕ) (i p : ℕ) (r : Row) → ((j : ℕ) → getD bs j 0 < 256) → wellFormed bs ≡ true → (p < processLimit) × Tells (λ t. getD (live t) i 0) bs p
+    → (p < processLimit → Tells (λ t. rowOf t p) bs r) → r ≡ rowAt (fromBytes bs) i
+unfolding Tells
+row-at-is bs i p r byte wf (h, found) row =
+    let t = fromBytes bs in
+    let st = stands-read bs byte wf in
+    row h t st ∙ ap (rowOf t) (found t st)

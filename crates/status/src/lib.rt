@@ -1,6 +1,6 @@
 // The status page: one row for each live process.
 pub mod live;
-pub mod row;
+pub mod page;
 
 // A row, as C has it: five bytes and no padding.
 #[repr(C)]

@@ -1,4 +1,4 @@
-// The row of a process.
+// One row of the page.
 use crate::Row;
 use crate::live::live_at;
 use layout::fields::process;
