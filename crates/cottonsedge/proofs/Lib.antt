@@ -4,3 +4,4 @@ pub mod ByValue
 pub mod FieldLaws
 pub mod Calls
 pub mod BootBytes
+pub mod PageLaws

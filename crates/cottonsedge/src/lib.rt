@@ -3,4 +3,5 @@ pub mod answer;
 pub mod boot;
 pub mod call;
 pub mod check;
+pub mod rows;
 pub mod value;

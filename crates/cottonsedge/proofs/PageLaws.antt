@@ -1,0 +1,87 @@
+-- What the code of the page, and the walk over its rows, ask of the definitions. Assumes nothing.
+use Prim.Native.Nat.{_<_, _≤_, ℕ}
+use native.Mathlib.Omega.{arith}
+use mathlib.Core.Bool.{false, true}
+use mathlib.Core.List.{List, _++_, map}
+use mathlib.Core.Path.{_∙_, _≡_, ap, sym}
+use lib.IntN.{pos}
+use lib.ListN.{List·getD-map, drop, getD, length, length-map}
+use borrow.Author.Tests.{le-ltb, lt-ltb}
+use Rattle.layout.specs.Bytes.{fromBytes, wellFormed}
+use Rattle.layout.specs.Stands.{Tells}
+use Rattle.lists.specs.Numbers.{listed}
+use Rattle.soundness.specs.Good.{currentByte, good}
+use Rattle.tables.specs.Readers.{live}
+use Rattle.tables.specs.declared.Tables.{Tables}
+use Rattle.rules.specs.declared.Answer.{Answer}
+use Rattle.rules.specs.declared.Answer.the-variants.{Done, Refused}
+use Rattle.status.specs.declared.Row.{Row}
+use Rattle.status.specs.Rows.{rowAt, rowOf, rows}
+use Rattle.layout.proofs.Image.{stands-read}
+use Rattle.lists.proofs.Bools.{below?, split}
+use Rattle.lists.proofs.Filled.{filled, filled-is}
+use Rattle.lists.proofs.NumberLaws.{listed-all}
+use Rattle.soundness.proofs.GoodBytes.{good-formed}
+use Rattle.status.proofs.Queues.{rows-long}
+use Rattle.cottonsedge.specs.Fields.{packed}
+use Rattle.cottonsedge.specs.Pages.{pageAnswer, pageOf, rowsAfter, written}
+
+module _ (bs : List ℕ) (lent : ℕ) where
+  abbrev many : ℕ
+  many = length (live (fromBytes bs))
+
+  -- The three answers
+
+  pub answer-bad : good bs ≡ false → pageAnswer bs lent ≡ Refused 15
+  unfolding pageAnswer
+  answer-bad g = rw g
+
+  pub answer-few : good bs ≡ true → lent < many → pageAnswer bs lent ≡ Refused 16
+  unfolding pageAnswer
+  answer-few g l = rw (g, lt-ltb lent many l)
+
+  pub answer-done : good bs ≡ true → many ≤ lent → pageAnswer bs lent ≡ Done (pos many)
+  unfolding pageAnswer
+  answer-done g l = rw (g, le-ltb lent many l)
+
+  pub cases {ℓ} : {P : Type ℓ} → (good bs ≡ false → P) → (good bs ≡ true → lent < many → P) → (good bs ≡ true → many ≤ lent → P) → P
+  cases bad few done = split (good bs) (λ g. below? lent many (few g) (done g)) bad
+
+  -- What the code tells
+
+  pub told-is : (c a n : ℕ) (z : Answer) → c ≡ currentByte bs → a ≡ packed z c → n ≡ written z → pageAnswer bs lent ≡ z → record { answer = a; rows = n } ≡ pageOf bs lent
+  told-is c a n z ec ea en e = rw (ea, en, ec, e)
+
+  pub live-is : (n : ℕ) → ((i : ℕ) → getD bs i 0 < 256) → good bs ≡ true → Tells (λ t. length (live t)) bs n → n ≡ many
+  unfolding Tells
+  live-is n byte g told = told (fromBytes bs) (stands-read bs byte (good-formed bs g))
+
+  -- What the walk asks
+
+  -- no more rows are written than are lent
+  pub within : written (pageAnswer bs lent) ≤ lent
+  within = cases (λ g. rw (answer-bad g) (omega arith)) (λ g l. rw (answer-few g l) (omega arith)) (λ g l. rw (answer-done g l) l)
+
+  -- a row is asked for of good bytes only
+  pub asked : (i : ℕ) → i < written (pageAnswer bs lent) → wellFormed bs ≡ true
+  asked i h =
+      cases
+      (λ g. let k : i < 0 = rw (answer-bad g) at h in absurd (omega (arith, k)))
+      (λ g l. let k : i < 0 = rw (answer-few g l) at h in absurd (omega (arith, k)))
+      (λ g l. good-formed bs g)
+
+-- the rows one by one are the rows
+each : (t : Tables) → listed 0 (length (live t)) (rowAt t) ≡ rows t
+unfolding rows
+each t = listed-all (rowOf t 0) (rowAt t) (length (live t)) (map (rowOf t) (live t)) (length-map (live t) (rowOf t)) (λ i h. sym (List·getD-map (rowOf t) (live t) i 0))
+
+-- what is written one by one is the page
+pub page-is : (bs : List ℕ) (lent : List Row) → filled (rowAt (fromBytes bs)) (written (pageAnswer bs (length lent))) lent ≡ rowsAfter bs lent
+unfolding rowsAfter
+page-is bs lent =
+    let n : ℕ = length lent in
+    let t : Tables = fromBytes bs in
+    cases bs n
+    (λ g. rw (answer-bad bs n g))
+    (λ g l. rw (answer-few bs n g l))
+    (λ g l. rw (answer-done bs n g l) (filled-is (rowAt t) (length (live t)) lent l ∙ ap (λ (rs : List Row). rs ++ drop (length (live t)) lent) (each t) ∙ rw (rows-long t)))
