@@ -84,4 +84,4 @@ page-is bs lent =
     cases bs n
     (λ g. rw (answer-bad bs n g))
     (λ g l. rw (answer-few bs n g l))
-    (λ g l. rw (answer-done bs n g l) (filled-is (rowAt t) (length (live t)) lent l ∙ ap (λ (rs : List Row). rs ++ drop (length (live t)) lent) (each t) ∙ rw (rows-long t)))
+    (λ g l. rw (answer-done bs n g l) (filled-is (rowAt t) (length (live t)) lent l ∙ ap (λ (rs : List Row). rs ++ drop (length (live t)) lent) (each t) ∙ ap (λ (n : ℕ). rows t ++ drop n lent) (sym (rows-long t))))

@@ -5,3 +5,4 @@ pub mod Asked
 pub mod Sessions
 pub mod ShutOut
 pub mod Edges
+pub mod Pages

@@ -2,3 +2,4 @@ pub mod Demands
 pub mod Sessions
 pub mod Kernels
 pub mod Edges
+pub mod Pages

@@ -15,7 +15,7 @@ use Rattle.tables.specs.declared.State.the-variants.{Current, Free, Ready, Susp
 use Rattle.tables.specs.declared.Semaphore.{Semaphore}
 use Rattle.tables.specs.declared.Tables.{Tables}
 use Rattle.tables.specs.States.{isCurrent, isFree, isReady, isSuspended, waitsOn}
-use Rattle.tables.specs.Readers.{countOf, queue, stateOf}
+use Rattle.tables.specs.Readers.{countOf, isUsed, queue, stateOf}
 use Rattle.tables.specs.Boot.{boot}
 use Rattle.tables.specs.Sound.{Sound}
 use Rattle.lists.proofs.Bools.{split}
@@ -24,7 +24,7 @@ use Rattle.tables.proofs.LineLaws.{in-line-live}
 use Rattle.tables.proofs.Sentences.{few-wait, sentences}
 use Rattle.tables.proofs.BootLaws.{entry-boot, sound-boot}
 use Rattle.rules.proofs.Kept.{sound-numbered}
-use Rattle.promises.specs.Record.{Account, Entry, Request, account, after, recordOf}
+use Rattle.promises.specs.Record.{Account, Entry, Request, account, after, blocked, recordOf}
 use Rattle.promises.specs.Sum.{Sum, sumOf}
 use Rattle.promises.specs.Demand.{Accounted, Demand3, OnePlace, Place, Start, queueOf, ready, running, suspended, there}
 use Rattle.promises.proofs.Accounts.{Agrees}
@@ -75,19 +75,19 @@ tests suspended = isSuspended
 tests (queueOf s) = waitsOn s
 
 -- the place of a state, none of a free slot
-abbrev placeOf : State → Option Place
-placeOf Free = none
-placeOf Current = some running
-placeOf Ready = some ready
-placeOf Suspended = some suspended
-placeOf (Waiting s) = some (queueOf s)
+abbrev placeByState : State → Option Place
+placeByState Free = none
+placeByState Current = some running
+placeByState Ready = some ready
+placeByState Suspended = some suspended
+placeByState (Waiting s) = some (queueOf s)
 
 -- a state passes the test of its own place alone
-passes-place : (x : Place) (st : State) → tests x st ≡ true → placeOf st ≡ some x
-passes-place running st h = ap placeOf (is-current st h)
-passes-place ready st h = ap placeOf (is-ready st h)
-passes-place suspended st h = ap placeOf (is-suspended st h)
-passes-place (queueOf s) st h = ap placeOf (waits-on st s h)
+passes-place : (x : Place) (st : State) → tests x st ≡ true → placeByState st ≡ some x
+passes-place running st h = ap placeByState (is-current st h)
+passes-place ready st h = ap placeByState (is-ready st h)
+passes-place suspended st h = ap placeByState (is-suspended st h)
+passes-place (queueOf s) st h = ap placeByState (waits-on st s h)
 
 module _ {t : Tables} (S : Sound t) where
   there-times : (p : ℕ) (x : Place) → times p (there t x) ≡ (if tests x (stateOf t p) then 1 else 0)
@@ -97,7 +97,7 @@ module _ {t : Tables} (S : Sound t) where
   there-times p (queueOf s) = in-line-live (S .laid) p (waitsOn s) refl
 
   -- where its state doesn't say, it doesn't stand
-  not-there : (p : ℕ) (x : Place) → placeOf (stateOf t p) ≢ some x → times p (there t x) ≡ 0
+  not-there : (p : ℕ) (x : Place) → placeByState (stateOf t p) ≢ some x → times p (there t x) ≡ 0
   not-there p x n = there-times p x ∙ split (tests x (stateOf t p)) (λ h. absurd (n (passes-place x (stateOf t p) h))) (λ h. rw h)
 
   at-place : (p : ℕ) (x : Place) → tests x (stateOf t p) ≡ true → OnePlace t p
@@ -111,7 +111,7 @@ module _ {t : Tables} (S : Sound t) where
   placed p (Waiting s) e h = at-place p (queueOf s) (ap (waitsOn s) e ∙ eq-eqb s s refl)
 
   nowhere : (p : ℕ) → isFree (stateOf t p) ≡ true → (x : Place) → times p (there t x) ≡ 0
-  nowhere p h x = not-there p x (λ d. Option·none-ne-some x (sym (ap placeOf (is-free (stateOf t p) h)) ∙ d))
+  nowhere p h x = not-there p x (λ d. Option·none-ne-some x (sym (ap placeByState (is-free (stateOf t p) h)) ∙ d))
 
   different : (s p : ℕ) → times p (queue t s) ≤ 1
   different s p = rw (there-times p (queueOf s)) (split (waitsOn s (stateOf t p)) (λ b. rw b (omega arith)) (λ b. rw b (omega arith)))
@@ -135,3 +135,10 @@ demand3-from st requests = demanded (invariant st requests)
 -- and so from boot
 pub demand3 : (requests : List Request) → Demand3 (after boot requests) (recordOf boot requests)
 demand3 = demand3-from start-boot
+
+-- so each queue is who the record says is still blocked
+pub demand3-queue : {t : Tables} {entries : List Entry} → Demand3 t entries → (s : ℕ) → queue t s ≡ blocked entries s
+demand3-queue {t} d s =
+    split (isUsed t s)
+    (λ u. let a = d .inUse s u in rw (a .known) (a .waiters))
+    (λ u. let a = d .notInUse s u in rw (a .0) (a .1))

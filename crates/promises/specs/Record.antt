@@ -154,6 +154,14 @@ unfoldable pub account : ℕ → List Entry → Option Account
 account s [] = none
 account s (e ∷ earlier) = noted (e .caller) (event s e) (account s earlier)
 
+-- who it says is still blocked on s, oldest first: nobody where it has no account of it
+abbrev pub blockedBy : Option Account → List ℕ
+blockedBy none = []
+blockedBy (some n) = stillBlocked (n .waits)
+
+abbrev pub blocked : List Entry → ℕ → List ℕ
+blocked entries s = blockedBy (account s entries)
+
 -- The tables and the record after any list of requests, the latest first
 
 abbrev pub made : Tables → Request → Outcome

@@ -1,5 +1,5 @@
 -- Good bytes are sound tables, and who runs in them is known. Assumes nothing.
-use Prim.Native.Nat.{ℕ}
+use Prim.Native.Nat.{_<_, ℕ}
 use native.Mathlib.Omega.{arith}
 use mathlib.Core.Bool.{Bool, false, not, true}
 use mathlib.Core.List.{List}
@@ -11,7 +11,7 @@ use Rattle.lists.specs.Lists.{if_then_else_}
 use Rattle.tables.specs.Readers.{currentOf, nobody}
 use Rattle.tables.specs.Sound.{Sound}
 use Rattle.tables.specs.Test.{soundNow}
-use Rattle.lists.proofs.Bools.{both, either}
+use Rattle.lists.proofs.Bools.{both, either, split}
 use Rattle.tables.proofs.Sentences.{current-below}
 use Rattle.tables.proofs.TestLaws.{checked-sound}
 use Rattle.soundness.specs.Good.{currentByte, good}
@@ -46,3 +46,8 @@ module _ (bs : List ℕ) (c : ℕ) (e : c ≡ currentByte bs) where
   -- which is what the check answers
   pub known-is : not (eqb c nobody) ≡ good bs
   known-is = either c nobody (λ k. rw (eq-eqb c nobody k) (sym (unknown-bad k))) (λ d. rw (ne-eqb c nobody d) (sym (known-good d .0)))
+
+-- who runs is told in one byte
+pub current-small : (bs : List ℕ) → currentByte bs < 256
+unfolding currentByte
+current-small bs = split (good bs) (λ g. let h = current-below (good-sound bs g) in rw g (omega arith)) (λ g. rw g (omega arith))

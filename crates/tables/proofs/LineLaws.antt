@@ -10,8 +10,10 @@ use lib.ListN.{length, getD, set, List·getD-eq-default}
 use lib.Seq.{getD-set-same, getD-set-other}
 use borrow.Author.Tests.{eq-eqb, ne-eqb, lt-ltb}
 use Rattle.lists.specs.Lists.{if_then_else_, without, times}
+use Rattle.lists.specs.Numbers.{countUp}
 use Rattle.lists.proofs.Bools.{either, below?}
-use Rattle.lists.proofs.ListLaws.{filter-leave, without-absent, times-filter, filter-no, passes, first-passes}
+use Rattle.lists.proofs.ListLaws.{filter-leave, without-absent, times-filter, length-split, filter-no, passes, first-passes}
+use Rattle.lists.proofs.NumberLaws.{listed-length}
 use Rattle.tables.specs.declared.State.{State}
 use Rattle.tables.specs.declared.State.the-variants.{Free}
 use Rattle.tables.specs.declared.Process.{Process}
@@ -19,7 +21,7 @@ use Rattle.tables.specs.declared.Semaphore.{Semaphore}
 use Rattle.tables.specs.declared.Tables.{Tables}
 use Rattle.tables.specs.Limits.{processLimit, semaphoreLimit}
 use Rattle.tables.specs.States.{isFree}
-use Rattle.tables.specs.Readers.{freeSlot, freeSemaphore, process, stateOf, priorityOf, semaphore, isUsed, line}
+use Rattle.tables.specs.Readers.{freeSlot, freeSemaphore, process, stateOf, priorityOf, semaphore, isUsed, line, live}
 use Rattle.tables.specs.Setters.{inState, withProcess, withState}
 use Rattle.tables.specs.Sound.{Laid}
 
@@ -125,3 +127,13 @@ module _ {t : Tables} (l : Laid t) where
       let n = l .slots in
       below? p processLimit (in-line p test)
       (λ k. times-filter p (λ x. test (stateOf t x)) (t .order) ∙ rw (ap (λ (r : Process). test (r .state)) (slot-past t p (omega arith)) ∙ h))
+
+-- The live ones
+
+-- no more than there are slots
+pub live-few : (t : Tables) → length (live t) ≤ processLimit
+unfolding live
+live-few t =
+    let f : ℕ → Bool = λ p. not (isFree (stateOf t p)) in
+    let n : length (countUp 0 processLimit) ≡ processLimit = listed-length (λ i. i) 0 processLimit in
+    omega (arith, length-split f (countUp 0 processLimit), n)

@@ -1,21 +1,23 @@
 -- What the row makes true of the lists and queues of sound tables. Assumes nothing.
-use Prim.Native.Nat.{ℕ, _<_}
+use Prim.Native.Nat.{ℕ, _≤_, _<_}
 use native.Mathlib.Omega.{arith}
-use mathlib.Core.Bool.{Bool, true, not}
+use mathlib.Core.Bool.{Bool, true, false, not}
 use mathlib.Core.List.{List, [], _∷_}
 use mathlib.Core.Path.{_≡_, refl, sym, ap, _∙_}
 use lib.ListN.{length}
 use borrow.Author.Tests.{eq-eqb}
 use Rattle.lists.specs.Lists.{filter, times, firstOr, first}
+use Rattle.lists.specs.Numbers.{countUp}
 use Rattle.lists.proofs.Bools.{split}
 use Rattle.lists.proofs.ListLaws.{times-filter, length-split, times-length, one-or-none, times-only, times-empty}
+use Rattle.lists.proofs.Rows.{row-countUp}
 use Rattle.tables.specs.declared.State.the-variants.{Current, Waiting}
 use Rattle.tables.specs.declared.Tables.{Tables}
 use Rattle.tables.specs.Limits.{processLimit, semaphoreLimit}
 use Rattle.tables.specs.States.{isFree, isCurrent, isReady, waitsOn}
-use Rattle.tables.specs.Readers.{stateOf, isUsed, line, queue, currents, currentOf}
+use Rattle.tables.specs.Readers.{stateOf, isUsed, line, live, queue, currents, currentOf}
 use Rattle.tables.specs.Sound.{Running, Sound, Sentences}
-use Rattle.tables.proofs.States.{is-current, waits-on}
+use Rattle.tables.proofs.States.{is-current, is-ready, waits-on}
 use Rattle.tables.proofs.LineLaws.{line-first, line-passes, live-below, live-once, used-below, in-line-live}
 
 waiter-once : {t : Tables} → Sound t → (p s : ℕ) → stateOf t p ≡ Waiting s → times p (queue t s) ≡ 1
@@ -67,3 +69,12 @@ few-wait {t} S s =
     let one : times (currentOf t) (filter (λ x. not (f x)) (t .order)) ≡ 1 = times-filter (currentOf t) (λ x. not (f x)) (t .order) ∙ rw (current-is (S .running)) (live-once (S .laid) (currentOf t) (current-below S)) in
     let n : length (t .order) ≡ processLimit = S .laid .places in
     omega (arith, length-split f (t .order), times-length (currentOf t) (filter (λ x. not (f x)) (t .order)))
+
+-- somebody is live, since process 0 is
+pub live-some : {t : Tables} → Sound t → 1 ≤ length (live t)
+unfolding live
+live-some {t} S =
+    let f : ℕ → Bool = λ p. not (isFree (stateOf t p)) in
+    let zero : isFree (stateOf t 0) ≡ false = split (isCurrent (stateOf t 0)) (λ e. ap isFree (is-current (stateOf t 0) e)) (λ e. ap isFree (is-ready (stateOf t 0) (rw e at (S .running .zero)))) in
+    let one : times 0 (filter f (countUp 0 processLimit)) ≡ 1 = times-filter 0 f (countUp 0 processLimit) ∙ rw zero (row-countUp processLimit .once 0 (omega arith)) in
+    omega (arith, times-length 0 (filter f (countUp 0 processLimit)))

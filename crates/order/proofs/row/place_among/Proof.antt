@@ -22,13 +22,13 @@ returns c = count-here _ _ _ _ _ _ (search needs) (c .before .before .before .pl
 
 loop-again : tie.Need-loop-again Inv-loop μ-loop
 loop-again c = (
-    search needs,
-    ⊎-elim (λ w. rw (w .2) (omega arith)) (λ w. rw (w .1) (omega arith)) (c .if1 .came),
-    ⊎-elim
-    (λ w. rw (w .2) (count-past _ _ _ _ _ _ (search needs) (c .before .before .place .ensures) (c .before .before .before .before .loop .inv .2) (w .0 .taken) (w .1 .left)))
-    (λ w. rw (w .1) (count-over _ _ _ _ _ _ (search needs) (c .before .before .place .ensures) (c .before .before .before .before .loop .inv .2) (w .0 .left)))
-    (c .if1 .came),
-  )
+  search needs,
+  ⊎-elim (λ w. rw (w .2) (omega arith)) (λ w. rw (w .1) (omega arith)) (c .if1 .came),
+  ⊎-elim
+      (λ w. rw (w .2) (count-past _ _ _ _ _ _ (search needs) (c .before .before .place .ensures) (c .before .before .before .before .loop .inv .2) (w .0 .taken) (w .1 .left)))
+      (λ w. rw (w .1) (count-over _ _ _ _ _ _ (search needs) (c .before .before .place .ensures) (c .before .before .before .before .loop .inv .2) (w .0 .left)))
+      (c .if1 .came),
+)
 
 returns-2 : tie.Need-returns-2 Inv-loop μ-loop
 returns-2 c = count-end _ _ _ _ _ (search needs) (c .before .loop .inv .2)

@@ -21,12 +21,12 @@ returns c = (search needs, seek-here _ _ _ _ (search needs) _ (c .before .before
 
 loop-again : tie.Need-loop-again Inv-loop μ-loop
 loop-again c = (
-    search needs,
-    ⊎-elim
-    (λ w. rw (w .2) (seek-past _ _ _ _ (search needs) _ (c .before .is-live .ensures) (c .before .before .before .loop .inv .1) (w .0 .taken) (w .1 .left)))
-    (λ w. rw (w .1) (seek-over _ _ _ _ (search needs) _ (c .before .is-live .ensures) (c .before .before .before .loop .inv .1) (w .0 .left)))
-    (c .if1 .came),
-  )
+  search needs,
+  ⊎-elim
+      (λ w. rw (w .2) (seek-past _ _ _ _ (search needs) _ (c .before .is-live .ensures) (c .before .before .before .loop .inv .1) (w .0 .taken) (w .1 .left)))
+      (λ w. rw (w .1) (seek-over _ _ _ _ (search needs) _ (c .before .is-live .ensures) (c .before .before .before .loop .inv .1) (w .0 .left)))
+      (c .if1 .came),
+)
 
 returns-2 : tie.Need-returns-2 Inv-loop μ-loop
 returns-2 c = (search needs, seek-end _ _ _ _ (search needs) (c .before .loop .inv .1))

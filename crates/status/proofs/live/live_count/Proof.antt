@@ -19,13 +19,13 @@ loop-holds c = (search needs, search needs, counted-start _)
 
 loop-again : tie.Need-loop-again Inv-loop μ-loop
 loop-again c = (
-    search needs,
-    ⊎-elim (λ w. rw (w .1) (omega arith)) (λ w. rw (w .1) (omega arith)) (c .if1 .came),
-    ⊎-elim
-    (λ w. rw (w .1) (counted-in _ _ _ (search needs) _ (c .before .is-live .ensures) (c .before .before .before .loop .inv .2) (w .0 .taken)))
-    (λ w. rw (w .1) (counted-over _ _ _ (search needs) _ (c .before .is-live .ensures) (c .before .before .before .loop .inv .2) (w .0 .left)))
-    (c .if1 .came),
-  )
+  search needs,
+  ⊎-elim (λ w. rw (w .1) (omega arith)) (λ w. rw (w .1) (omega arith)) (c .if1 .came),
+  ⊎-elim
+      (λ w. rw (w .1) (counted-in _ _ _ (search needs) _ (c .before .is-live .ensures) (c .before .before .before .loop .inv .2) (w .0 .taken)))
+      (λ w. rw (w .1) (counted-over _ _ _ (search needs) _ (c .before .is-live .ensures) (c .before .before .before .loop .inv .2) (w .0 .left)))
+      (c .if1 .came),
+)
 
 returns : tie.Need-returns Inv-loop μ-loop
 returns c = counted-end _ _ _ (search needs) (c .before .loop .inv .2)
