@@ -25,7 +25,7 @@ use Rattle.tables.specs.Limits.{processLimit}
 use Rattle.tables.specs.Readers.{live}
 use Rattle.telling.specs.Reasons.{FirstOf}
 use Rattle.cottonsedge.specs.Entries.{booted}
-use Rattle.cottonsedge.specs.Fields.{packed, processField, refusalField, valueField}
+use Rattle.cottonsedge.specs.Fields.{packed, refusalField, valueField}
 use Rattle.cottonsedge.specs.Pages.{leftBy, pageAnswer, rowsAfter}
 use Rattle.promises.proofs.Demand.{demand3-queue}
 use Rattle.soundness.proofs.GoodBytes.{current-small, good-sound}

@@ -1,7 +1,7 @@
 -- The rows show exactly the queues. Assumes nothing.
 use Prim.Native.Nat.{_<_, _≤_, suc, zero, ℕ}
 use native.Mathlib.Omega.{arith}
-use mathlib.Core.Bool.{Bool, _&&_, false, not, true, and-false}
+use mathlib.Core.Bool.{Bool, _&&_, false, not, true}
 use mathlib.Core.List.{List, [], _++_, _∷_, map}
 use mathlib.Core.Path.{_∙_, _≡_, ap, refl, sym}
 use lib.Dec.{eqb}

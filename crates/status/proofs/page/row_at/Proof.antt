@@ -1,5 +1,4 @@
 -- Well-formed bytes stand for tables, and the row is one of those. Assumes nothing.
-use borrow.Author.Needs.{needs}
 use Rattle.layout.proofs.Image.{formed-long}
 use Rattle.status.proofs.page.row_at.Statement.{statement}
 use Rattle.status.proofs.RowLaws.{row-at-is}
