@@ -1,6 +1,7 @@
 /* Prints layout.h as constants of Rust: where each field begins, how many bytes
    there are, the values of a state byte, the last call. */
 #include <ctype.h>
+#include <stddef.h>
 #include <stdio.h>
 
 #include "layout.h"

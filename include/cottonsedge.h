@@ -16,7 +16,6 @@
 #ifndef COTTONSEDGE_H
 #define COTTONSEDGE_H
 
-#include <stddef.h>
 #include <stdint.h>
 
 #ifdef __cplusplus
@@ -73,16 +72,16 @@ enum {
 /* Writes the boot tables: process 0 current, all else free. Answers 0, or 15
    with nothing written if `length` is not COTTONSEDGE_LENGTH. The bytes found
    there don't matter. */
-uint8_t cottonsedge_boot(uint8_t *tables, size_t length);
+uint8_t cottonsedge_boot(uint8_t *tables, uint64_t length);
 
 /* Makes one call. The answer is refusal, value and process now current, to be
    read with the three functions below. Tables that aren't sound are left as
    they came, and the answer is 15, -1 and COTTONSEDGE_NOBODY. */
-uint64_t cottonsedge_call(uint8_t *tables, size_t length, uint8_t call, int32_t a, int32_t b);
+uint64_t cottonsedge_call(uint8_t *tables, uint64_t length, uint8_t call, int32_t a, int32_t b);
 
 /* Answers 0 if the bytes are sound tables, else 15. Writes nothing. Every call
    makes this check itself. */
-uint8_t cottonsedge_check(const uint8_t *tables, size_t length);
+uint8_t cottonsedge_check(const uint8_t *tables, uint64_t length);
 
 /* The refusal in an answer, COTTONSEDGE_DONE for none. */
 static inline uint8_t cottonsedge_refusal(uint64_t answer)

@@ -4,9 +4,9 @@
 use second::layout::LENGTH;
 
 extern "C" {
-    fn cottonsedge_call(tables: *mut u8, length: usize, call: u8, a: i32, b: i32) -> u64;
-    fn cottonsedge_boot(tables: *mut u8, length: usize) -> u8;
-    fn cottonsedge_check(tables: *const u8, length: usize) -> u8;
+    fn cottonsedge_call(tables: *mut u8, length: u64, call: u8, a: i32, b: i32) -> u64;
+    fn cottonsedge_boot(tables: *mut u8, length: u64) -> u8;
+    fn cottonsedge_check(tables: *const u8, length: u64) -> u8;
 }
 
 const FENCE: usize = 24;
@@ -47,18 +47,18 @@ impl Lent {
     pub fn boot(&mut self) -> u8 {
         let lent = self.bytes_mut();
         // SAFETY: the pointer and the length are those of one live slice.
-        unsafe { cottonsedge_boot(lent.as_mut_ptr(), lent.len()) }
+        unsafe { cottonsedge_boot(lent.as_mut_ptr(), lent.len() as u64) }
     }
 
     pub fn call(&mut self, call: u8, a: i32, b: i32) -> u64 {
         let lent = self.bytes_mut();
         // SAFETY: the pointer and the length are those of one live slice.
-        unsafe { cottonsedge_call(lent.as_mut_ptr(), lent.len(), call, a, b) }
+        unsafe { cottonsedge_call(lent.as_mut_ptr(), lent.len() as u64, call, a, b) }
     }
 
     pub fn check(&self) -> u8 {
         let lent = self.bytes();
         // SAFETY: the pointer and the length are those of one live slice.
-        unsafe { cottonsedge_check(lent.as_ptr(), lent.len()) }
+        unsafe { cottonsedge_check(lent.as_ptr(), lent.len() as u64) }
     }
 }

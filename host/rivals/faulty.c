@@ -6,9 +6,9 @@
 
 #include "../layout.h"
 
-uint64_t inplace_call(uint8_t *tables, size_t length, uint8_t call, int32_t a, int32_t b);
-uint8_t inplace_boot(uint8_t *tables, size_t length);
-uint8_t inplace_check(const uint8_t *tables, size_t length);
+uint64_t inplace_call(uint8_t *tables, uint64_t length, uint8_t call, int32_t a, int32_t b);
+uint8_t inplace_boot(uint8_t *tables, uint64_t length);
+uint8_t inplace_check(const uint8_t *tables, uint64_t length);
 
 enum {
     ROW_OF_FREE = 1,   /* a kill exchanges two places that carry no meaning */
@@ -67,7 +67,7 @@ static uint64_t spoil(Tables *t, uint8_t call, int32_t a, uint64_t answer, int d
     return answer;
 }
 
-uint64_t cottonsedge_call(uint8_t *tables, size_t length, uint8_t call, int32_t a, int32_t b)
+uint64_t cottonsedge_call(uint8_t *tables, uint64_t length, uint8_t call, int32_t a, int32_t b)
 {
     if (length != COTTONSEDGE_LENGTH)
         return inplace_call(tables, length, call, a, b);
@@ -76,7 +76,7 @@ uint64_t cottonsedge_call(uint8_t *tables, size_t length, uint8_t call, int32_t 
     return spoil(t, call, a, inplace_call(tables, length, call, a, b), deep);
 }
 
-uint8_t cottonsedge_boot(uint8_t *tables, size_t length)
+uint8_t cottonsedge_boot(uint8_t *tables, uint64_t length)
 {
     if (fault() == BOOT_LENGTH && length > COTTONSEDGE_LENGTH)
         return inplace_boot(tables, COTTONSEDGE_LENGTH);
@@ -86,7 +86,7 @@ uint8_t cottonsedge_boot(uint8_t *tables, size_t length)
     return answer;
 }
 
-uint8_t cottonsedge_check(const uint8_t *tables, size_t length)
+uint8_t cottonsedge_check(const uint8_t *tables, uint64_t length)
 {
     const Tables *t = (const Tables *)tables;
     uint8_t answer = inplace_check(tables, length);

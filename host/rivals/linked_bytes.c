@@ -16,7 +16,7 @@ static int row_right(const uint8_t *order)
     return 1;
 }
 
-static int well_formed(const Tables *bytes, size_t length)
+static int well_formed(const Tables *bytes, uint64_t length)
 {
     int right = length == sizeof *bytes;
 
@@ -99,7 +99,7 @@ static void write_tables(const Linked *t, Tables *bytes)
     bytes->next_process = t->next_process;
 }
 
-uint8_t cottonsedge_check(const uint8_t *tables, size_t length)
+uint8_t cottonsedge_check(const uint8_t *tables, uint64_t length)
 {
     const Tables *bytes = (const Tables *)tables;
     Linked t;
@@ -110,7 +110,7 @@ uint8_t cottonsedge_check(const uint8_t *tables, size_t length)
     return linked_check(&t);
 }
 
-uint64_t cottonsedge_call(uint8_t *tables, size_t length, uint8_t call, int32_t a, int32_t b)
+uint64_t cottonsedge_call(uint8_t *tables, uint64_t length, uint8_t call, int32_t a, int32_t b)
 {
     Tables *bytes = (Tables *)tables;
     Linked t;
@@ -124,7 +124,7 @@ uint64_t cottonsedge_call(uint8_t *tables, size_t length, uint8_t call, int32_t 
     return answer;
 }
 
-uint8_t cottonsedge_boot(uint8_t *tables, size_t length)
+uint8_t cottonsedge_boot(uint8_t *tables, uint64_t length)
 {
     Linked t;
 

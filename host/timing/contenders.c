@@ -30,9 +30,9 @@
 /* The rivals are compiled in several ways, under names that tell how. */
 #define BYTES COTTONSEDGE_LENGTH
 #define OVER_BYTES(NAME)                                                                     \
-    uint64_t NAME##_call(uint8_t *, size_t, uint8_t, int32_t, int32_t);                      \
-    uint8_t NAME##_boot(uint8_t *, size_t);                                                  \
-    uint8_t NAME##_check(const uint8_t *, size_t);                                           \
+    uint64_t NAME##_call(uint8_t *, uint64_t, uint8_t, int32_t, int32_t);                    \
+    uint8_t NAME##_boot(uint8_t *, uint64_t);                                                \
+    uint8_t NAME##_check(const uint8_t *, uint64_t);                                         \
     LOOPS(NAME, NAME##_boot(t, BYTES), NAME##_call(t, BYTES, call, a, b), NAME##_check(t, BYTES))
 
 #define OVER_LISTS(NAME)                                                                     \
