@@ -1,6 +1,6 @@
 /*
- * The calls by hand over the same bytes, and the library's three functions. For
- * a file that has `sound` and `current`.
+ * The calls by hand over the same bytes, and the library's functions for them:
+ * call, check, boot. For a file that has `sound` and `current`.
  */
 #ifndef CALLS_H
 #define CALLS_H
