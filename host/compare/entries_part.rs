@@ -63,7 +63,7 @@ impl Run<'_> {
             let compared = steps::compare(&calls, self.options.view, &mut self.tally);
             compared.map(|_| sum + calls.len()).map_err(|why| format!("seed {}: {}", seed, why))
         });
-        let told = |calls| format!("{} calls in {} streams, seeds {} and on", calls, seeds.len(), seeds[0]);
+        let told = |calls| format!("{} calls, seeds {} to {}", calls, seeds[0], seeds[seeds.len() - 1]);
         self.report.check(&format!("entries, {}", name), result.map(told));
     }
 

@@ -76,8 +76,8 @@ fn compare(tables: &mut Lent, lent: usize, expected: &Expected, marks: &mut Page
 /// One page; tells the waiters that it shows.
 fn page(tables: &mut Lent, lent: usize, expected: &Expected) -> Result<Vec<Waiter>, String> {
     let paint = paint(lent);
-    let mut rows = Lent::new(&paint, lent % 8);
     let before = tables.bytes().to_vec();
+    let mut rows = Lent::new(&paint, shift(&before, lent));
     let answer = tables.page(&mut rows);
     if answer != expected.answer {
         return Err(format!("answer {:012x}, not {:012x}", answer, expected.answer));
@@ -101,6 +101,11 @@ fn same_rows(rows: &Lent, paint: &[u8], expected: &Expected) -> Result<Vec<Waite
         _ if !rows.fence_untouched() => Err("a byte outside the rows was touched".into()),
         _ => Ok(shown),
     }
+}
+
+/// An alignment for the rows: the same number of them lies at every one.
+fn shift(tables: &[u8], lent: usize) -> usize {
+    tables.iter().take(PROCESSES).fold(lent, |sum, &byte| sum + byte as usize) % 8
 }
 
 /// What the rows hold before: no byte that a row of the page can have.
