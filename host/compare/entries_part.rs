@@ -92,7 +92,7 @@ impl Run<'_> {
     fn single_bytes(&mut self, judged: &mut Judged) {
         let all = self.seeds(2, if self.options.long { 12 } else { 4 });
         let spread = self.seeds(3, 200);
-        let mut judge = Judge { view: self.options.view, tally: &mut self.tally, judged, paged: 4 };
+        let mut judge = Judge { view: self.options.view, tally: &mut self.tally, judged, paged: 8 };
         let mut change = |seeds: &[u64], values: Values| {
             let result = seeds.iter().try_for_each(|&seed| damage::single_bytes(&mut judge, seed, values));
             result.map(|_| format!("{} tables, seeds {} and on", seeds.len(), seeds[0]))
@@ -104,7 +104,7 @@ impl Run<'_> {
     fn other_damage(&mut self, judged: &mut Judged) {
         let (several, random) = (self.amount(1000), self.amount(60_000));
         let seed = self.options.seed;
-        let mut judge = Judge { view: self.options.view, tally: &mut self.tally, judged, paged: 4 };
+        let mut judge = Judge { view: self.options.view, tally: &mut self.tally, judged, paged: 8 };
         let result = (0..100).try_for_each(|n| damage::several_bytes(&mut judge, seed + n, several));
         self.report
             .check("entries, several bytes changed", result.map(|_| format!("{} times", 100 * several)));

@@ -17,7 +17,8 @@ pub enum View {
     Lists,
 }
 
-/// So few calls that the status page is compared after each of them.
+/// So few calls that the status page is compared after each of them; of more it is
+/// after one in eight, and always at the end.
 pub const SHORT: usize = 100;
 
 pub fn text(call: Call) -> String {
@@ -36,7 +37,7 @@ pub fn from_boot(calls: &[Call], view: View, tally: &mut Tally) -> Result<(), St
     at_boot.map_err(|why| format!("at boot: {}", why))?;
     for (n, &call) in calls.iter().enumerate() {
         let mut made = one(&mut lent, &mut model, call, view, tally);
-        if calls.len() <= SHORT || n % 4 == 0 {
+        if calls.len() <= SHORT || n % 8 == 0 {
             made = made.and_then(|_| pages::of_sound(&mut lent, &model, call, &mut tally.pages));
         }
         made.map_err(|why| format!("call {}, {}: {}", n + 1, text(call), why))?;
