@@ -1,8 +1,9 @@
 /*
- * A small board that plays one incident. A handler waits for the VLAN lock and
- * is killed when its browser tab closes. Its number goes to a new handler, which
- * is still suspended. Then the lock is given back: the new handler stays where
- * it is, for no queue remembers the dead one.
+ * A small board that plays one incident. Two handlers wait for the VLAN lock, and
+ * the first of them is killed when its browser tab closes. Its number goes to a
+ * new handler, which is still suspended. Then the lock is given back: the other
+ * waiter gets it and the new handler stays where it is, for no queue remembers
+ * the dead one. Who waits for what is read from the status page.
  */
 #include <stdio.h>
 #include <stdlib.h>
@@ -13,10 +14,20 @@
 static uint8_t tables[COTTONSEDGE_LENGTH];
 static uint8_t running;
 
-/* The same bytes field by field, to be read and not written. */
-static const Tables *const seen = (const Tables *)tables;
+/* The status page as it was last read. */
+static struct cottonsedge_row page[COTTONSEDGE_PROCESSES];
+static int rows;
 
-static const char *const state_names[] = {"free", "current", "ready", "suspended"};
+static const char *state_name(uint8_t state)
+{
+    switch (state) {
+    case COTTONSEDGE_STATE_CURRENT: return "current";
+    case COTTONSEDGE_STATE_READY: return "ready";
+    case COTTONSEDGE_STATE_SUSPENDED: return "suspended";
+    case COTTONSEDGE_STATE_WAITING: return "waiting";
+    default: return "unknown";
+    }
+}
 
 /* The last line of every board: say why, and stop. */
 static void halt(const char *what, uint64_t answer)
@@ -25,19 +36,46 @@ static void halt(const char *what, uint64_t answer)
     exit(EXIT_FAILURE);
 }
 
+/* A real board masks interrupts here, as around a call. */
+static void read_page(void)
+{
+    uint64_t answer = cottonsedge_rows(tables, sizeof tables, page, COTTONSEDGE_PROCESSES);
+
+    if (cottonsedge_refusal(answer) != COTTONSEDGE_DONE)
+        halt("the status page", answer);
+    rows = cottonsedge_value(answer);
+}
+
+/* Who stands at a place of a queue, NULL for nobody. */
+static const struct cottonsedge_row *waiter(unsigned semaphore, unsigned place)
+{
+    for (int i = 0; i < rows; i++)
+        if (page[i].state == COTTONSEDGE_STATE_WAITING && page[i].awaited == semaphore && page[i].place == place)
+            return &page[i];
+    return NULL;
+}
+
 static void print_waiters(unsigned semaphore, const char *name)
 {
-    int found = 0;
+    const struct cottonsedge_row *row;
 
-    for (int i = 0; i < COTTONSEDGE_PROCESSES; i++) {
-        unsigned process = seen->order[i];
-        if (seen->state[process] != WAITING + semaphore)
-            continue;
-        printf("%s %u", found ? "," : "; waiting for", process);
-        found = 1;
+    for (unsigned place = 1; (row = waiter(semaphore, place)) != NULL; place++) {
+        if (place == 1)
+            printf("; waiting for %s:", name);
+        printf(" %d", row->number);
     }
-    if (found)
-        printf(" (%s)", name);
+}
+
+static void print_page(void)
+{
+    read_page();
+    printf("the status page:\n");
+    for (int i = 0; i < rows; i++) {
+        printf("    process %d, priority %2d, %s", page[i].number, page[i].priority, state_name(page[i].state));
+        if (page[i].state == COTTONSEDGE_STATE_WAITING)
+            printf(" for semaphore %d at place %d", page[i].awaited, page[i].place);
+        printf("\n");
+    }
 }
 
 /* One call by the process that runs. A real board masks interrupts here, and
@@ -62,19 +100,27 @@ static int32_t step(const char *what, uint8_t number, int32_t a, int32_t b)
 {
     int32_t value = call(what, number, a, b);
 
+    read_page();
     printf("%-44s value %2ld; runs %d", what, (long)value, running);
-    print_waiters(LOCK, "lock");
+    print_waiters(LOCK, "the lock");
     print_waiters(REQUESTS, "requests");
     printf("\n");
     return value;
 }
 
+/* 0 if the page has no such process. */
+static uint8_t state_of(int32_t process)
+{
+    read_page();
+    for (int i = 0; i < rows; i++)
+        if (page[i].number == process)
+            return page[i].state;
+    return 0;
+}
+
 static void print_state(int32_t process)
 {
-    uint8_t state = seen->state[process];
-
-    printf("process %ld is %s; the lock counts %ld\n", (long)process,
-           state < WAITING ? state_names[state] : "waiting",
+    printf("process %ld is %s; the lock counts %ld\n", (long)process, state_name(state_of(process)),
            (long)call("count of the lock", COTTONSEDGE_COUNT, LOCK, 0));
 }
 
@@ -88,18 +134,21 @@ static void start_up(void)
     step("resume the server", COTTONSEDGE_RESUME, 1, 0);
 }
 
-/* The server makes two handlers; the first holds the lock, the second waits. */
-static int32_t two_handlers(void)
+/* The server makes three handlers; the first holds the lock, the others wait. */
+static int32_t three_handlers(void)
 {
     int32_t holder = step("server: make a handler, priority 20", COTTONSEDGE_MAKE_PROCESS, 20, 0);
     int32_t waiter = step("server: make another", COTTONSEDGE_MAKE_PROCESS, 20, 0);
+    int32_t next = step("server: make a third", COTTONSEDGE_MAKE_PROCESS, 20, 0);
 
     step("server: resume the first", COTTONSEDGE_RESUME, holder, 0);
     step("server: resume the second", COTTONSEDGE_RESUME, waiter, 0);
+    step("server: resume the third", COTTONSEDGE_RESUME, next, 0);
     step("server: wait for a request", COTTONSEDGE_WAIT, REQUESTS, 0);
     step("first handler: take the lock", COTTONSEDGE_WAIT, LOCK, 0);
     step("first handler: yield", COTTONSEDGE_YIELD, 0, 0);
     step("second handler: wait for the lock", COTTONSEDGE_WAIT, LOCK, 0);
+    step("third handler: wait for the lock", COTTONSEDGE_WAIT, LOCK, 0);
     return waiter;
 }
 
@@ -127,24 +176,28 @@ static int damage_is_refused(void)
     memcpy(damaged, tables, sizeof damaged);
     ((Tables *)damaged)->state[0] = SUSPENDED;
     uint64_t answer = cottonsedge_call(damaged, sizeof damaged, COTTONSEDGE_YIELD, 0, 0);
-    printf("a copy that says process 0 is suspended: refused with %d, runs %d\n",
-           cottonsedge_refusal(answer), cottonsedge_process(answer));
-    return cottonsedge_refusal(answer) == COTTONSEDGE_UNSOUND;
+    uint64_t shown = cottonsedge_rows(damaged, sizeof damaged, page, COTTONSEDGE_PROCESSES);
+    printf("a copy that says process 0 is suspended: a call is refused with %d, the page with %d, runs %d\n",
+           cottonsedge_refusal(answer), cottonsedge_refusal(shown), cottonsedge_process(answer));
+    return cottonsedge_refusal(answer) == COTTONSEDGE_UNSOUND && shown == answer;
 }
 
 int main(void)
 {
     start_up();
-    int32_t dead = two_handlers();
+    int32_t dead = three_handlers();
     step("a request comes in", COTTONSEDGE_SIGNAL, REQUESTS, 0);
+    print_page();
     step("server: the tab closed, kill the second", COTTONSEDGE_KILL, dead, 0);
     int32_t reborn = number_again(dead);
     step("server: wait for a request", COTTONSEDGE_WAIT, REQUESTS, 0);
     step("first handler: give the lock back", COTTONSEDGE_SIGNAL, LOCK, 0);
     print_state(reborn);
-    if (seen->state[reborn] != SUSPENDED)
+    if (state_of(reborn) != COTTONSEDGE_STATE_SUSPENDED)
         return EXIT_FAILURE;
-    step("first handler: resume the new one", COTTONSEDGE_RESUME, reborn, 0);
+    step("third handler: give the lock back", COTTONSEDGE_SIGNAL, LOCK, 0);
+    step("third handler: resume the new one", COTTONSEDGE_RESUME, reborn, 0);
+    step("first handler: yield", COTTONSEDGE_YIELD, 0, 0);
     step("new handler: take the lock", COTTONSEDGE_WAIT, LOCK, 0);
     print_state(reborn);
     return damage_is_refused() ? EXIT_SUCCESS : EXIT_FAILURE;

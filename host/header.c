@@ -1,13 +1,18 @@
 /*
  * The header's names against the library, in C99 and in C++: the length, each
- * call number, each refusal number, and the three fields of an answer.
+ * call number, each refusal number, the three fields of an answer, and the rows
+ * and states of the status page.
  */
+#include <stddef.h>
 #include <stdio.h>
 #include <string.h>
 
 #include "layout.h"
 
+enum { UNTOUCHED = 0xee };
+
 static uint8_t tables[COTTONSEDGE_LENGTH];
+static struct cottonsedge_row rows[COTTONSEDGE_PROCESSES];
 static int failed;
 
 static void check(const char *what, long found, long expected)
@@ -38,6 +43,12 @@ static int32_t value(uint8_t number, int32_t a, int32_t b)
 static uint8_t refusal(uint8_t number, int32_t a, int32_t b)
 {
     return cottonsedge_refusal(call(number, a, b));
+}
+
+static uint64_t page(uint64_t lent)
+{
+    memset(rows, UNTOUCHED, sizeof rows);
+    return cottonsedge_rows(tables, sizeof tables, rows, lent);
 }
 
 static void fields(void)
@@ -126,13 +137,79 @@ static void shared_refusals(void)
     check("UNSOUND tells NOBODY", cottonsedge_process(answer), COTTONSEDGE_NOBODY);
 }
 
+static void row_fields(void)
+{
+    check("a row has five bytes", sizeof(struct cottonsedge_row), 5);
+    check("number of a row", offsetof(struct cottonsedge_row, number), 0);
+    check("state of a row", offsetof(struct cottonsedge_row, state), 1);
+    check("priority of a row", offsetof(struct cottonsedge_row, priority), 2);
+    check("awaited of a row", offsetof(struct cottonsedge_row, awaited), 3);
+    check("place of a row", offsetof(struct cottonsedge_row, place), 4);
+}
+
+/* Process 0 is ready, 1 is current, 2 is suspended; 4 and behind it 3 wait on semaphore 1. */
+static void five_processes(void)
+{
+    boot();
+    call(COTTONSEDGE_MAKE_SEMAPHORE, 0, 0);
+    call(COTTONSEDGE_MAKE_SEMAPHORE, 0, 0);
+    for (int p = 1; p <= 4; p++)
+        call(COTTONSEDGE_MAKE_PROCESS, 10 + p, 0);
+    call(COTTONSEDGE_RESUME, 4, 0);
+    call(COTTONSEDGE_WAIT, 1, 0);
+    call(COTTONSEDGE_RESUME, 3, 0);
+    call(COTTONSEDGE_WAIT, 1, 0);
+    call(COTTONSEDGE_RESUME, 1, 0);
+}
+
+static void rows_of_five(void)
+{
+    five_processes();
+    uint64_t answer = page(COTTONSEDGE_PROCESSES);
+    check("the page is not refused", cottonsedge_refusal(answer), COTTONSEDGE_DONE);
+    check("the page's value is the number of rows", cottonsedge_value(answer), 5);
+    check("the page tells the current process", cottonsedge_process(answer), 1);
+    check("STATE_READY", rows[0].state, COTTONSEDGE_STATE_READY);
+    check("STATE_CURRENT", rows[1].state, COTTONSEDGE_STATE_CURRENT);
+    check("STATE_SUSPENDED", rows[2].state, COTTONSEDGE_STATE_SUSPENDED);
+    check("STATE_WAITING", rows[3].state, COTTONSEDGE_STATE_WAITING);
+    check("a row's number", rows[4].number, 4);
+    check("a row's priority", rows[4].priority, 14);
+    check("a waiter's semaphore", rows[4].awaited, 1);
+    check("the first waiter's place", rows[4].place, 1);
+    check("the second waiter's place", rows[3].place, 2);
+    check("no semaphore but for a waiter", rows[2].awaited, 0);
+    check("no place but for a waiter", rows[2].place, 0);
+    check("a row past the last keeps what it held", rows[5].number, UNTOUCHED);
+}
+
+static void refusals_of_the_page(void)
+{
+    five_processes();
+    check("as many rows as live processes", cottonsedge_value(page(5)), 5);
+    uint64_t answer = page(4);
+    check("TOO_FEW_ROWS", cottonsedge_refusal(answer), COTTONSEDGE_TOO_FEW_ROWS);
+    check("TOO_FEW_ROWS is 16", COTTONSEDGE_TOO_FEW_ROWS, 16);
+    check("TOO_FEW_ROWS has value -1", cottonsedge_value(answer), -1);
+    check("TOO_FEW_ROWS tells the current process", cottonsedge_process(answer), 1);
+    check("TOO_FEW_ROWS writes no row", rows[0].number, UNTOUCHED);
+    memset(tables, 0, sizeof tables);
+    answer = page(0);
+    check("UNSOUND before TOO_FEW_ROWS", cottonsedge_refusal(answer), COTTONSEDGE_UNSOUND);
+    check("UNSOUND of a page has value -1", cottonsedge_value(answer), -1);
+    check("UNSOUND of a page tells NOBODY", cottonsedge_process(answer), COTTONSEDGE_NOBODY);
+}
+
 int main(void)
 {
     fields();
+    row_fields();
     length();
     calls();
     refusals_of_semaphores();
     refusals_of_processes();
     shared_refusals();
+    rows_of_five();
+    refusals_of_the_page();
     return failed;
 }

@@ -1,7 +1,7 @@
 /*
- * The lent bytes as they lie (docs/LAYOUT.md says what they mean), and the last
- * call. Every program here takes them from this file: those in C as it stands,
- * those in Rust as layout.c prints it.
+ * The lent bytes as they lie (docs/LAYOUT.md says what they mean), the fields of
+ * a row of the status page, and the last call. Every program here takes them from
+ * this file: those in C as it stands, those in Rust as layout.c prints it.
  */
 #ifndef LAYOUT_H
 #define LAYOUT_H
@@ -29,6 +29,17 @@ enum {
 typedef struct { FIELDS(MEMBER) } Tables;
 
 typedef char tables_have_the_length[sizeof(Tables) == COTTONSEDGE_LENGTH ? 1 : -1];
+
+/* The fields of a row of the status page in their order, one byte each. */
+#define ROW_FIELDS(FIELD) \
+    FIELD(number)         \
+    FIELD(state)          \
+    FIELD(priority)       \
+    FIELD(awaited)        \
+    FIELD(place)
+
+#define COUNTED(name) +1
+typedef char rows_are_their_fields[sizeof(struct cottonsedge_row) == ROW_FIELDS(COUNTED) ? 1 : -1];
 
 /* The values of a state byte. */
 enum {

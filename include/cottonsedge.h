@@ -6,17 +6,17 @@
  * of the board's. All it knows stands in the COTTONSEDGE_LENGTH bytes that the
  * caller owns and lends to each call. Two tables are two kernels.
  *
- * Of the three functions a caller may rely on this:
- *   - `tables` must point to `length` bytes, at any alignment, that nobody else
- *     touches during the call: mask interrupts around it;
+ * Of the four functions a caller may rely on this:
+ *   - `tables` must point to `length` bytes and `rows` to `lent` rows, at any
+ *     alignment and without overlap, that nobody else touches during the call:
+ *     mask interrupts around it;
  *   - any bytes may be lent, sound or not, and any numbers passed: there is
- *     always an answer, and never a read or write outside the lent bytes;
- *   - a refused call leaves every lent byte as it was.
+ *     always an answer, and never a read or write outside what is lent;
+ *   - a refused call leaves every lent byte and row as it was.
  */
 #ifndef COTTONSEDGE_H
 #define COTTONSEDGE_H
 
-#include <stddef.h>
 #include <stdint.h>
 
 #ifdef __cplusplus
@@ -67,22 +67,48 @@ enum {
     COTTONSEDGE_BAD_LINE = 12,           /* bench program only */
     COTTONSEDGE_NO_SUCH_CALL = 13,       /* call number not in 01 to 0b */
     COTTONSEDGE_SPARE_ARGUMENT = 14,     /* an argument the call doesn't use isn't 0 */
-    COTTONSEDGE_UNSOUND = 15             /* the bytes lent aren't sound tables, or not 698 */
+    COTTONSEDGE_UNSOUND = 15,            /* the bytes lent aren't sound tables, or not 698 */
+    COTTONSEDGE_TOO_FEW_ROWS = 16        /* status page only: fewer rows lent than there are live processes */
+};
+
+/* The states that a row of the status page tells. */
+enum {
+    COTTONSEDGE_STATE_CURRENT = 1,
+    COTTONSEDGE_STATE_READY = 2,
+    COTTONSEDGE_STATE_SUSPENDED = 3,
+    COTTONSEDGE_STATE_WAITING = 4
+};
+
+/* One live process on the status page: five bytes, no padding. */
+struct cottonsedge_row {
+    uint8_t number;
+    uint8_t state;
+    uint8_t priority;
+    uint8_t awaited; /* the semaphore that a waiter waits for, else 0 */
+    uint8_t place;   /* its place in that queue, counted from 1, else 0 */
 };
 
 /* Writes the boot tables: process 0 current, all else free. Answers 0, or 15
    with nothing written if `length` is not COTTONSEDGE_LENGTH. The bytes found
    there don't matter. */
-uint8_t cottonsedge_boot(uint8_t *tables, size_t length);
+uint8_t cottonsedge_boot(uint8_t *tables, uint64_t length);
 
 /* Makes one call. The answer is refusal, value and process now current, to be
    read with the three functions below. Tables that aren't sound are left as
    they came, and the answer is 15, -1 and COTTONSEDGE_NOBODY. */
-uint64_t cottonsedge_call(uint8_t *tables, size_t length, uint8_t call, int32_t a, int32_t b);
+uint64_t cottonsedge_call(uint8_t *tables, uint64_t length, uint8_t call, int32_t a, int32_t b);
 
 /* Answers 0 if the bytes are sound tables, else 15. Writes nothing. Every call
    makes this check itself. */
-uint8_t cottonsedge_check(const uint8_t *tables, size_t length);
+uint8_t cottonsedge_check(const uint8_t *tables, uint64_t length);
+
+/* The status page: one row for each live process, in rising number. `lent` is
+   how many rows are lent; COTTONSEDGE_PROCESSES are always enough. The answer is
+   read as that of a call: its value is the number of rows written, its process
+   the current one. Rows past these keep what they held, and no table changes.
+   Unsound tables are answered as by a call; with fewer rows than live processes
+   the answer is 16, -1 and the current process. Both write no row. */
+uint64_t cottonsedge_rows(const uint8_t *tables, uint64_t length, struct cottonsedge_row *rows, uint64_t lent);
 
 /* The refusal in an answer, COTTONSEDGE_DONE for none. */
 static inline uint8_t cottonsedge_refusal(uint64_t answer)

@@ -6,7 +6,9 @@
 
 use crate::entries::Lent;
 use crate::steps;
+use second::line;
 use second::model::Call;
+use second::wrong::Wrong;
 
 struct Step {
     call: Call,
@@ -95,6 +97,12 @@ pub const EDGES: &[(&str, &str)] = &[
     ("a killed waiter's number is a new process",
      "03 0; 06 20; 07 1 @1; 01 0 @0; 09 1; 06 20 *30; 06 30 =1; 02 0 @0; 0b 0 =1; 07 1 =30 @1"),
 ];
+
+/// The calls of the session.
+pub fn session() -> Vec<Call> {
+    let lines = line::lines(SESSION, Wrong::Nothing);
+    lines.into_iter().filter_map(|text| line::read(text, Wrong::Nothing)).collect()
+}
 
 /// The calls of one edge.
 pub fn calls(text: &str) -> Vec<Call> {

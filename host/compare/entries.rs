@@ -1,12 +1,13 @@
-//! The three exported functions of the static library, over lent bytes with a
+//! The four exported functions of the static library, over lent bytes with a
 //! fence on both sides that nobody may touch.
 
-use second::layout::LENGTH;
+use second::layout::{LENGTH, ROW_LENGTH};
 
 extern "C" {
-    fn cottonsedge_call(tables: *mut u8, length: usize, call: u8, a: i32, b: i32) -> u64;
-    fn cottonsedge_boot(tables: *mut u8, length: usize) -> u8;
-    fn cottonsedge_check(tables: *const u8, length: usize) -> u8;
+    fn cottonsedge_call(tables: *mut u8, length: u64, call: u8, a: i32, b: i32) -> u64;
+    fn cottonsedge_boot(tables: *mut u8, length: u64) -> u8;
+    fn cottonsedge_check(tables: *const u8, length: u64) -> u8;
+    fn cottonsedge_rows(tables: *const u8, length: u64, rows: *mut u8, lent: u64) -> u64;
 }
 
 const FENCE: usize = 24;
@@ -47,18 +48,27 @@ impl Lent {
     pub fn boot(&mut self) -> u8 {
         let lent = self.bytes_mut();
         // SAFETY: the pointer and the length are those of one live slice.
-        unsafe { cottonsedge_boot(lent.as_mut_ptr(), lent.len()) }
+        unsafe { cottonsedge_boot(lent.as_mut_ptr(), lent.len() as u64) }
     }
 
     pub fn call(&mut self, call: u8, a: i32, b: i32) -> u64 {
         let lent = self.bytes_mut();
         // SAFETY: the pointer and the length are those of one live slice.
-        unsafe { cottonsedge_call(lent.as_mut_ptr(), lent.len(), call, a, b) }
+        unsafe { cottonsedge_call(lent.as_mut_ptr(), lent.len() as u64, call, a, b) }
     }
 
     pub fn check(&self) -> u8 {
         let lent = self.bytes();
         // SAFETY: the pointer and the length are those of one live slice.
-        unsafe { cottonsedge_check(lent.as_ptr(), lent.len()) }
+        unsafe { cottonsedge_check(lent.as_ptr(), lent.len() as u64) }
+    }
+
+    /// The status page of these tables in rows that are lent too. The tables may be
+    /// written here, so that a library that does so can be found.
+    pub fn page(&mut self, rows: &mut Lent) -> u64 {
+        let (lent, rows) = (self.bytes_mut(), rows.bytes_mut());
+        let number = (rows.len() / ROW_LENGTH) as u64;
+        // SAFETY: the pointers and the lengths are those of two live slices; a row has any alignment.
+        unsafe { cottonsedge_rows(lent.as_mut_ptr(), lent.len() as u64, rows.as_mut_ptr(), number) }
     }
 }

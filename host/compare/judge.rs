@@ -1,8 +1,9 @@
 //! Any bytes judged: 15 exactly when the second program finds them unsound, with
-//! not a byte changed, and else a call as the second program makes it.
+//! not a byte changed, and else a page and a call as the second program makes them.
 
 use crate::entries::Lent;
 use crate::generate::one_call;
+use crate::pages;
 use crate::shrink::shrink;
 use crate::steps::{one, text, View};
 use crate::tally::Tally;
@@ -64,16 +65,26 @@ pub struct Judge<'a> {
     pub view: View,
     pub tally: &'a mut Tally,
     pub judged: &'a mut Judged,
+    /// The status page is compared on one of so many tables.
+    pub paged: u64,
 }
 
 /// A judgement on its own, whose counts nobody wants.
 pub fn judge_alone(view: View, bytes: &[u8], call: Call) -> Result<(), Failure> {
-    let mut judge = Judge { view, tally: &mut Tally::default(), judged: &mut Judged::default() };
+    let mut judge = Judge { view, tally: &mut Tally::default(), judged: &mut Judged::default(), paged: 1 };
     judge.judge(bytes, Make::Given(call))
 }
 
 impl Judge<'_> {
-    /// The check and one call on any bytes.
+    /// A call that is given is judged again, so a page that failed must fail again.
+    fn page_due(&self, make: Make) -> bool {
+        match make {
+            Make::Chosen(seed) => (seed >> 32) % self.paged == 0,
+            Make::Given(_) => true,
+        }
+    }
+
+    /// The check, the page and one call on any bytes.
     pub fn judge(&mut self, bytes: &[u8], make: Make) -> Result<(), Failure> {
         let mut lent = Lent::new(bytes, bytes[0] as usize % 8);
         match decode_sound(bytes) {
@@ -105,6 +116,9 @@ impl Judge<'_> {
         if lent.bytes() != bytes || !lent.fence_untouched() {
             return Failure::at(call, "the answer is 15 and a byte is changed".into());
         }
+        if self.page_due(make) {
+            pages::of_unsound(lent, call, &mut self.tally.pages).or_else(|why| Failure::at(call, why))?;
+        }
         Ok(())
     }
 
@@ -115,6 +129,10 @@ impl Judge<'_> {
         };
         if lent.check() != 0 {
             return Failure::at(call, "the check answers 15, but the tables are sound".into());
+        }
+        if self.page_due(make) {
+            let page = pages::of_sound(lent, &model, call, &mut self.tally.pages);
+            page.or_else(|why| Failure::at(call, format!("before it, {}", why)))?;
         }
         one(lent, &mut model, call, self.view, self.tally).or_else(|why| Failure::at(call, why))
     }

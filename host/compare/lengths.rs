@@ -3,6 +3,7 @@
 use crate::damage::reached;
 use crate::entries::Lent;
 use crate::generate::stream;
+use crate::pages;
 use crate::tally::Tally;
 use second::layout::LENGTH;
 use second::model::unsound;
@@ -23,6 +24,7 @@ pub fn compare(length: usize, seed: u64, tally: &mut Tally) -> Result<(), String
             return Err(format!("call {:02x} is not answered 15", call));
         }
     }
+    pages::of_wrong_length(&mut lent, &mut tally.pages)?;
     if lent.boot() != 15 {
         return Err("boot is not answered 15".into());
     }

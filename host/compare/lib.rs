@@ -11,6 +11,8 @@ pub mod judge;
 pub mod lengths;
 pub mod lines;
 pub mod marks;
+pub mod page_marks;
+pub mod pages;
 pub mod plans;
 pub mod random;
 pub mod report;

@@ -2,6 +2,7 @@
 
 use crate::entries::Lent;
 use crate::marks::Before;
+use crate::pages;
 use crate::shrink::shrink;
 use crate::tally::Tally;
 use second::bytes::{decode, Bytes};
@@ -16,6 +17,10 @@ pub enum View {
     Lists,
 }
 
+/// So few calls that the status page is compared after each of them; of more it is
+/// after one in eight, and always at the end.
+pub const SHORT: usize = 100;
+
 pub fn text(call: Call) -> String {
     format!("{:02x}{:08x}{:08x}", call.call, call.a, call.b)
 }
@@ -27,12 +32,17 @@ pub fn from_boot(calls: &[Call], view: View, tally: &mut Tally) -> Result<(), St
     if lent.boot() != 0 {
         return Err("boot does not answer 0".into());
     }
-    same(&lent, &model, view).map_err(|why| format!("at boot: {}", why))?;
+    let at_boot =
+        same(&lent, &model, view).and_then(|_| pages::of_every_size(&mut lent, &model, &mut tally.pages));
+    at_boot.map_err(|why| format!("at boot: {}", why))?;
     for (n, &call) in calls.iter().enumerate() {
-        one(&mut lent, &mut model, call, view, tally)
-            .map_err(|why| format!("call {}, {}: {}", n + 1, text(call), why))?;
+        let mut made = one(&mut lent, &mut model, call, view, tally);
+        if calls.len() <= SHORT || n % 8 == 0 {
+            made = made.and_then(|_| pages::of_sound(&mut lent, &model, call, &mut tally.pages));
+        }
+        made.map_err(|why| format!("call {}, {}: {}", n + 1, text(call), why))?;
     }
-    Ok(())
+    pages::of_every_size(&mut lent, &model, &mut tally.pages).map_err(|why| format!("at the end: {}", why))
 }
 
 /// One call on both; a refusal changes no byte in either view.

@@ -1,6 +1,7 @@
-//! How often each call was done and each refusal given.
+//! How often each call was done and each refusal given, and what else was met.
 
 use crate::marks::Marks;
+use crate::page_marks::PageMarks;
 use second::layout::LAST_CALL;
 
 /// A row for each call; unknown ones stand in row 0.
@@ -13,6 +14,7 @@ pub struct Tally {
     pub refused: [[u64; 16]; ROWS],
     pub numbers: [u64; 16],
     pub marks: Marks,
+    pub pages: PageMarks,
 }
 
 impl Tally {

@@ -1,6 +1,6 @@
 /*
- * The calls by hand over the same bytes, and the library's three functions. For
- * a file that has `sound` and `current`.
+ * The calls by hand over the same bytes, and the library's functions for them:
+ * call, check, boot. For a file that has `sound` and `current`.
  */
 #ifndef CALLS_H
 #define CALLS_H
@@ -216,12 +216,12 @@ static uint64_t packed(unsigned refusal, int32_t value, unsigned process)
     return (uint64_t)refusal << 40 | (uint64_t)(uint32_t)value << 8 | process;
 }
 
-uint8_t cottonsedge_check(const uint8_t *tables, size_t length)
+uint8_t cottonsedge_check(const uint8_t *tables, uint64_t length)
 {
     return length == sizeof(Tables) && sound((const Tables *)tables) ? 0 : 15;
 }
 
-uint64_t cottonsedge_call(uint8_t *tables, size_t length, uint8_t call, int32_t a, int32_t b)
+uint64_t cottonsedge_call(uint8_t *tables, uint64_t length, uint8_t call, int32_t a, int32_t b)
 {
     Tables *t = (Tables *)tables;
 
@@ -231,7 +231,7 @@ uint64_t cottonsedge_call(uint8_t *tables, size_t length, uint8_t call, int32_t 
     return packed(answer.refusal, answer.value, current(t));
 }
 
-uint8_t cottonsedge_boot(uint8_t *tables, size_t length)
+uint8_t cottonsedge_boot(uint8_t *tables, uint64_t length)
 {
     Tables *t = (Tables *)tables;
 

@@ -3,12 +3,14 @@
  * the same bytes, and the fault that the variable FAULT names by number.
  */
 #include <stdlib.h>
+#include <string.h>
 
 #include "../layout.h"
 
-uint64_t inplace_call(uint8_t *tables, size_t length, uint8_t call, int32_t a, int32_t b);
-uint8_t inplace_boot(uint8_t *tables, size_t length);
-uint8_t inplace_check(const uint8_t *tables, size_t length);
+uint64_t inplace_call(uint8_t *tables, uint64_t length, uint8_t call, int32_t a, int32_t b);
+uint8_t inplace_boot(uint8_t *tables, uint64_t length);
+uint8_t inplace_check(const uint8_t *tables, uint64_t length);
+uint64_t inplace_rows(const uint8_t *tables, uint64_t length, struct cottonsedge_row *rows, uint64_t lent);
 
 enum {
     ROW_OF_FREE = 1,   /* a kill exchanges two places that carry no meaning */
@@ -21,7 +23,19 @@ enum {
     HIGH_BITS,         /* bits above the low 48 are set */
     WRITES_BEHIND,     /* a byte behind the tables is written */
     DEEP_SIGNAL,       /* a signal to 31 waiters answers 2 */
-    ONE_LEVEL          /* priority 62 is stored as 61 */
+    ONE_LEVEL,         /* priority 62 is stored as 61 */
+    PLACES_FROM_0,     /* the page counts places from 0 */
+    PLACES_BY_NUMBER,  /* the page counts places by process number */
+    ONE_STATE,         /* the page shows the suspended as ready */
+    ROW_OF_FREE_SLOT,  /* the page has a row for a free slot */
+    ROW_PAST_CLEARED,  /* the page clears the row past its last one */
+    ROW_PAST_LENT,     /* the page writes behind the rows lent */
+    ROWS_BEFORE_16,    /* the rows lent are written before 16 is told */
+    TOO_FEW_AS_15,     /* too few rows are told 15 */
+    TOO_FEW_TELLS_255, /* too few rows are told process 255 */
+    TOO_FEW_FIRST,     /* no row lent for unsound tables is told 16 */
+    ROWS_BEFORE_15,    /* a row is cleared before 15 is told of damaged tables */
+    PAGE_WRITES        /* the page moves a cursor */
 };
 
 static int fault(void)
@@ -67,7 +81,7 @@ static uint64_t spoil(Tables *t, uint8_t call, int32_t a, uint64_t answer, int d
     return answer;
 }
 
-uint64_t cottonsedge_call(uint8_t *tables, size_t length, uint8_t call, int32_t a, int32_t b)
+uint64_t cottonsedge_call(uint8_t *tables, uint64_t length, uint8_t call, int32_t a, int32_t b)
 {
     if (length != COTTONSEDGE_LENGTH)
         return inplace_call(tables, length, call, a, b);
@@ -76,7 +90,7 @@ uint64_t cottonsedge_call(uint8_t *tables, size_t length, uint8_t call, int32_t 
     return spoil(t, call, a, inplace_call(tables, length, call, a, b), deep);
 }
 
-uint8_t cottonsedge_boot(uint8_t *tables, size_t length)
+uint8_t cottonsedge_boot(uint8_t *tables, uint64_t length)
 {
     if (fault() == BOOT_LENGTH && length > COTTONSEDGE_LENGTH)
         return inplace_boot(tables, COTTONSEDGE_LENGTH);
@@ -86,11 +100,99 @@ uint8_t cottonsedge_boot(uint8_t *tables, size_t length)
     return answer;
 }
 
-uint8_t cottonsedge_check(const uint8_t *tables, size_t length)
+uint8_t cottonsedge_check(const uint8_t *tables, uint64_t length)
 {
     const Tables *t = (const Tables *)tables;
     uint8_t answer = inplace_check(tables, length);
     int only_count = answer && length == COTTONSEDGE_LENGTH && t->used[9] == 0 && t->count[9][0] != 0;
 
     return fault() == CHECK_LENIENT && only_count ? 0 : answer;
+}
+
+static const struct cottonsedge_row cleared = {0, 0, 0, 0, 0};
+
+static void count_by_number(struct cottonsedge_row *rows, int n)
+{
+    uint8_t met[S] = {0};
+
+    for (int i = 0; i < n; i++)
+        if (rows[i].state == COTTONSEDGE_STATE_WAITING)
+            rows[i].place = ++met[rows[i].awaited];
+}
+
+static void count_from_0(struct cottonsedge_row *rows, int n)
+{
+    for (int i = 0; i < n; i++)
+        if (rows[i].state == COTTONSEDGE_STATE_WAITING)
+            rows[i].place--;
+}
+
+static void show_ready(struct cottonsedge_row *rows, int n)
+{
+    for (int i = 0; i < n; i++)
+        if (rows[i].state == COTTONSEDGE_STATE_SUSPENDED)
+            rows[i].state = COTTONSEDGE_STATE_READY;
+}
+
+/* A row for the last slot; tells what one more is in an answer. */
+static uint64_t add_last(struct cottonsedge_row *row)
+{
+    *row = cleared;
+    row->number = P - 1;
+    return 256;
+}
+
+/* What a fault does to a page that was answered with n rows. */
+static uint64_t spoil_page(const Tables *t, struct cottonsedge_row *rows, uint64_t lent, uint64_t answer)
+{
+    int n = cottonsedge_value(answer);
+    int past = (uint64_t)n < lent;
+
+    switch (fault()) {
+    case PLACES_FROM_0: count_from_0(rows, n); break;
+    case PLACES_BY_NUMBER: count_by_number(rows, n); break;
+    case ONE_STATE: show_ready(rows, n); break;
+    case ROW_OF_FREE_SLOT: if (past && t->state[P - 1] == FREE) return answer + add_last(&rows[n]); break;
+    case ROW_PAST_CLEARED: if (past) rows[n] = cleared; break;
+    case ROW_PAST_LENT: if (!past) rows[n] = cleared; break;
+    case PAGE_WRITES: ((Tables *)t)->next_semaphore ^= 1; break;
+    default: break;
+    }
+    return answer;
+}
+
+/* What a fault makes of too few rows. */
+static uint64_t spoil_too_few(const Tables *t, struct cottonsedge_row *rows, uint64_t lent, uint64_t answer)
+{
+    struct cottonsedge_row whole[P];
+
+    switch (fault()) {
+    case ROWS_BEFORE_16:
+        inplace_rows((const uint8_t *)t, COTTONSEDGE_LENGTH, whole, P);
+        memcpy(rows, whole, lent * sizeof *rows);
+        return answer;
+    case TOO_FEW_AS_15: return answer - (UINT64_C(1) << 40);
+    case TOO_FEW_TELLS_255: return answer | COTTONSEDGE_NOBODY;
+    default: return answer;
+    }
+}
+
+/* What a fault makes of damaged tables. */
+static uint64_t spoil_unsound(struct cottonsedge_row *rows, uint64_t lent, uint64_t answer)
+{
+    if (fault() == ROWS_BEFORE_15 && lent > 0)
+        rows[0] = cleared;
+    return fault() == TOO_FEW_FIRST && lent == 0 ? answer + (UINT64_C(1) << 40) : answer;
+}
+
+uint64_t cottonsedge_rows(const uint8_t *tables, uint64_t length, struct cottonsedge_row *rows, uint64_t lent)
+{
+    const Tables *t = (const Tables *)tables;
+    uint64_t answer = inplace_rows(tables, length, rows, lent);
+
+    switch (cottonsedge_refusal(answer)) {
+    case COTTONSEDGE_DONE: return spoil_page(t, rows, lent, answer);
+    case COTTONSEDGE_TOO_FEW_ROWS: return spoil_too_few(t, rows, lent, answer);
+    default: return length == COTTONSEDGE_LENGTH ? spoil_unsound(rows, lent, answer) : answer;
+    }
 }

@@ -1,5 +1,5 @@
 /*
- * The library's three functions in plain C over the same bytes. The loops of the
+ * The library's functions in plain C over the same bytes. The loops of the
  * check only gather a flag, so that a compiler can do many bytes at a time.
  */
 #include <string.h>
@@ -114,3 +114,4 @@ static unsigned current(const Tables *t)
 }
 
 #include "calls.h"
+#include "page.h"

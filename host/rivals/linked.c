@@ -444,3 +444,5 @@ void linked_boot(Linked *t)
     t->ready = empty;
     t->next_process = 1;
 }
+
+#include "linked_page.h"

@@ -49,7 +49,10 @@ void linked_boot(Linked *t);
 uint8_t linked_check(const Linked *t);
 uint64_t linked_call(Linked *t, uint8_t call, int32_t a, int32_t b);
 
-/* For scale: the same call on tables that are taken to be sound. */
+uint64_t linked_rows(const Linked *t, struct cottonsedge_row *rows, uint64_t lent);
+
+/* For scale: the same on tables that are taken to be sound. */
 uint64_t linked_call_unchecked(Linked *t, uint8_t call, int32_t a, int32_t b);
+uint64_t linked_rows_unchecked(const Linked *t, struct cottonsedge_row *rows, uint64_t lent);
 
 #endif

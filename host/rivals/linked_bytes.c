@@ -1,5 +1,5 @@
 /*
- * The linked lists behind the library's three functions, so that they can be
+ * The linked lists behind the library's functions, so that they can be
  * held to the same comparisons: bytes into lists, one call, lists into bytes.
  * The lists know no row: its listed processes come first, the rest behind.
  */
@@ -16,7 +16,7 @@ static int row_right(const uint8_t *order)
     return 1;
 }
 
-static int well_formed(const Tables *bytes, size_t length)
+static int well_formed(const Tables *bytes, uint64_t length)
 {
     int right = length == sizeof *bytes;
 
@@ -99,7 +99,10 @@ static void write_tables(const Linked *t, Tables *bytes)
     bytes->next_process = t->next_process;
 }
 
-uint8_t cottonsedge_check(const uint8_t *tables, size_t length)
+/* 15, -1 and nobody. */
+static const uint64_t UNSOUND = UINT64_C(0x0fffffffffff);
+
+uint8_t cottonsedge_check(const uint8_t *tables, uint64_t length)
 {
     const Tables *bytes = (const Tables *)tables;
     Linked t;
@@ -110,13 +113,13 @@ uint8_t cottonsedge_check(const uint8_t *tables, size_t length)
     return linked_check(&t);
 }
 
-uint64_t cottonsedge_call(uint8_t *tables, size_t length, uint8_t call, int32_t a, int32_t b)
+uint64_t cottonsedge_call(uint8_t *tables, uint64_t length, uint8_t call, int32_t a, int32_t b)
 {
     Tables *bytes = (Tables *)tables;
     Linked t;
 
     if (!well_formed(bytes, length))
-        return UINT64_C(0x0fffffffffff);
+        return UNSOUND;
     read_tables(&t, bytes);
     uint64_t answer = linked_call(&t, call, a, b);
     if (cottonsedge_refusal(answer) == COTTONSEDGE_DONE)
@@ -124,7 +127,18 @@ uint64_t cottonsedge_call(uint8_t *tables, size_t length, uint8_t call, int32_t 
     return answer;
 }
 
-uint8_t cottonsedge_boot(uint8_t *tables, size_t length)
+uint64_t cottonsedge_rows(const uint8_t *tables, uint64_t length, struct cottonsedge_row *rows, uint64_t lent)
+{
+    const Tables *bytes = (const Tables *)tables;
+    Linked t;
+
+    if (!well_formed(bytes, length))
+        return UNSOUND;
+    read_tables(&t, bytes);
+    return linked_rows(&t, rows, lent);
+}
+
+uint8_t cottonsedge_boot(uint8_t *tables, uint64_t length)
 {
     Linked t;
 

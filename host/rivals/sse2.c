@@ -193,3 +193,4 @@ static unsigned sound(const Tables *t)
 }
 
 #include "calls.h"
+#include "page.h"

@@ -7,6 +7,7 @@ pub mod kernel;
 pub mod layout;
 pub mod line;
 pub mod model;
+pub mod page;
 pub mod record;
 pub mod row;
 pub mod sound;

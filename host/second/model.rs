@@ -2,6 +2,7 @@
 
 use crate::bytes::{encode, Bytes};
 use crate::kernel::{Answer, Kernel};
+use crate::page::{page, PageRow, Waiter};
 use crate::record::{Entry, Record};
 use crate::row::Row;
 use crate::sound;
@@ -70,6 +71,19 @@ impl Model {
             Some(record) if disagrees(record) => Some("demand 3: count and queue are those of the record"),
             _ => sound::fault(self.tables()),
         }
+    }
+
+    /// The answer and the rows of the status page when so many are lent.
+    pub fn page(&self, lent: usize) -> (u64, Vec<PageRow>) {
+        match page(self.tables(), lent) {
+            Some(rows) => (packed(0, rows.len() as i32, self.told()), rows),
+            None => (packed(16, -1, self.told()), Vec::new()),
+        }
+    }
+
+    /// Who is still blocked by the record, if there is one.
+    pub fn still_blocked(&self) -> Option<Vec<Waiter>> {
+        self.record.as_ref().map(Record::still_blocked)
     }
 
     pub fn bytes(&self) -> Bytes {

@@ -1,6 +1,7 @@
 //! The record of calls and demand 3, worked out from calls, callers and answers alone.
 
 use crate::kernel::Answer;
+use crate::page::Waiter;
 use crate::tables::{Tables, SEMAPHORES};
 
 /// One call of the record. Refused calls add nothing.
@@ -77,6 +78,17 @@ impl Record {
 
     fn history(&mut self, a: i32) -> &mut History {
         self.histories[a as usize].as_mut().expect("an accepted call names a made semaphore")
+    }
+
+    /// Every process still blocked, by semaphore, and of one semaphore the oldest first.
+    pub fn still_blocked(&self) -> Vec<Waiter> {
+        let mut blocked = Vec::new();
+        for (awaited, history) in self.histories.iter().enumerate() {
+            let remaining = history.as_ref().map_or(&[][..], |history| &history.remaining);
+            let waiter = |(&(_, number), place)| Waiter { awaited, place, number };
+            blocked.extend(remaining.iter().zip(1..).map(waiter));
+        }
+        blocked
     }
 
     /// Demand 3: every semaphore's count and queue are those of the record.

@@ -3,8 +3,10 @@
 #include "../../include/cottonsedge.h"
 #include "../rivals/linked.h"
 
+typedef struct cottonsedge_row Row;
+
 /* Each contender has its own loops, so that every call is a direct one. */
-#define LOOPS(NAME, BOOT, CALL, CHECK)                                                       \
+#define LOOPS(NAME, BOOT, CALL, CHECK, ROWS)                                                 \
     static void boot_##NAME(void *t) { BOOT; }                                               \
     static uint64_t one_##NAME(void *t, uint8_t call, int32_t a, int32_t b) { return CALL; } \
     static uint64_t run_##NAME(void *t, const Call *calls, size_t n)                         \
@@ -25,22 +27,33 @@
             all |= CHECK;                                                                    \
         }                                                                                    \
         return all;                                                                          \
+    }                                                                                        \
+    static uint64_t page_##NAME(const void *t, Row *rows, uint64_t lent, size_t times)       \
+    {                                                                                        \
+        uint64_t mixed = 0;                                                                  \
+        for (size_t i = 0; i < times; i++)                                                   \
+            mixed = mixed * 31 + ROWS;                                                       \
+        return mixed;                                                                        \
     }
 
 /* The rivals are compiled in several ways, under names that tell how. */
 #define BYTES COTTONSEDGE_LENGTH
 #define OVER_BYTES(NAME)                                                                     \
-    uint64_t NAME##_call(uint8_t *, size_t, uint8_t, int32_t, int32_t);                      \
-    uint8_t NAME##_boot(uint8_t *, size_t);                                                  \
-    uint8_t NAME##_check(const uint8_t *, size_t);                                           \
-    LOOPS(NAME, NAME##_boot(t, BYTES), NAME##_call(t, BYTES, call, a, b), NAME##_check(t, BYTES))
+    uint64_t NAME##_call(uint8_t *, uint64_t, uint8_t, int32_t, int32_t);                    \
+    uint8_t NAME##_boot(uint8_t *, uint64_t);                                                \
+    uint8_t NAME##_check(const uint8_t *, uint64_t);                                         \
+    uint64_t NAME##_rows(const uint8_t *, uint64_t, Row *, uint64_t);                        \
+    LOOPS(NAME, NAME##_boot(t, BYTES), NAME##_call(t, BYTES, call, a, b), NAME##_check(t, BYTES), \
+          NAME##_rows(t, BYTES, rows, lent))
 
 #define OVER_LISTS(NAME)                                                                     \
     uint64_t NAME##_call(Linked *, uint8_t, int32_t, int32_t);                               \
     uint64_t NAME##_call_unchecked(Linked *, uint8_t, int32_t, int32_t);                     \
     void NAME##_boot(Linked *);                                                              \
     uint8_t NAME##_check(const Linked *);                                                    \
-    LOOPS(NAME, NAME##_boot(t), NAME##_call(t, call, a, b), NAME##_check(t))
+    uint64_t NAME##_rows(const Linked *, Row *, uint64_t);                                   \
+    uint64_t NAME##_rows_unchecked(const Linked *, Row *, uint64_t);                         \
+    LOOPS(NAME, NAME##_boot(t), NAME##_call(t, call, a, b), NAME##_check(t), NAME##_rows(t, rows, lent))
 
 OVER_BYTES(cottonsedge)
 OVER_LISTS(linked_gcc_O2)
@@ -51,7 +64,8 @@ OVER_BYTES(inplace_gcc_O3)
 OVER_BYTES(inplace_clang_O3)
 OVER_BYTES(sse2_gcc_O3)
 OVER_BYTES(sse2_clang_O3)
-LOOPS(unchecked, linked_gcc_O3_boot(t), linked_gcc_O3_call_unchecked(t, call, a, b), linked_gcc_O3_check(t))
+LOOPS(unchecked, linked_gcc_O3_boot(t), linked_gcc_O3_call_unchecked(t, call, a, b), linked_gcc_O3_check(t),
+      linked_gcc_O3_rows_unchecked(t, rows, lent))
 #ifdef NATIVE
 OVER_BYTES(native)
 OVER_LISTS(linked_gcc_native)
@@ -59,7 +73,7 @@ OVER_BYTES(inplace_gcc_native)
 OVER_BYTES(inplace_clang_native)
 #endif
 
-#define ENTRY(NAME, TEXT, BESIDE) {TEXT, BESIDE, boot_##NAME, run_##NAME, one_##NAME, check_##NAME}
+#define ENTRY(NAME, TEXT, BESIDE) {TEXT, BESIDE, boot_##NAME, run_##NAME, one_##NAME, check_##NAME, page_##NAME}
 
 const Contender contenders[] = {
     ENTRY(cottonsedge, "Cottonsedge", LIBRARY),

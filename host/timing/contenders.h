@@ -11,6 +11,8 @@ typedef struct {
     int32_t b;
 } Call;
 
+struct cottonsedge_row;
+
 /* Room for the tables of any of them. */
 enum { ROOM = 2048 };
 
@@ -25,6 +27,8 @@ typedef struct {
     uint64_t (*one)(void *tables, uint8_t call, int32_t a, int32_t b);
     /* Checks tables that stand ROOM apart; 0 if all are sound. */
     unsigned (*check)(const uint8_t *many, size_t n);
+    /* The status page, so many times; tells a number that depends on every answer. */
+    uint64_t (*page)(const void *tables, struct cottonsedge_row *rows, uint64_t lent, size_t times);
 } Contender;
 
 extern const Contender contenders[];

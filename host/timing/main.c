@@ -7,15 +7,17 @@
 #include <stdlib.h>
 
 #include "contenders.h"
+#include "pages.h"
 #include "scenes.h"
 #include "stack.h"
 #include "streams.h"
 
-enum { STREAMS = 4, SIZES = 5, STACK_CALLS = 2000, STACK_TARGET = 1024 };
+enum { STREAMS = 4, SIZES = 5, STACK_CALLS = 2000, STACK_TARGET = 1024, PAGE_TARGET = 10 };
 
 static Stream streams[STREAMS];
 static size_t streams_count;
 static Stack stacks[CONTENDERS];
+static double page_times[PAGES][CONTENDERS];
 
 static double ratio(const Stream *stream, size_t c)
 {
@@ -56,10 +58,11 @@ static void print_others(void)
 
 static void print_stacks(void)
 {
-    printf("\n| stack, bytes | boot | call | check |\n|---|---|---|---|\n");
+    printf("\n| stack, bytes | boot | call | check | status page |\n|---|---|---|---|---|\n");
     for (size_t c = 0; c < contenders_count; c++) {
         stacks[c] = stack_used(&contenders[c], streams[0].calls, STACK_CALLS);
-        printf("| %s | %zu | %zu | %zu |\n", contenders[c].name, stacks[c].boot, stacks[c].call, stacks[c].check);
+        printf("| %s | %zu | %zu | %zu | %zu |\n", contenders[c].name, stacks[c].boot, stacks[c].call, stacks[c].check,
+               stacks[c].page);
     }
 }
 
@@ -82,6 +85,22 @@ static void print_scene(const Scene *scene, size_t rounds)
     }
 }
 
+static void print_pages(size_t rounds)
+{
+    printf("\n| status page: ns a page, best; Cottonsedge takes of it |");
+    for (size_t i = 0; i < PAGES; i++) {
+        printf(" %s |", pages[i].name);
+        time_page(&pages[i], rounds, page_times[i]);
+    }
+    printf("\n|---|---|---|---|---|\n");
+    for (size_t c = 0; c < contenders_count; c++) {
+        printf("| %s |", contenders[c].name);
+        for (size_t i = 0; i < PAGES; i++)
+            printf(" %.0f; %.2f |", page_times[i][c], page_times[i][contenders[c].library] / page_times[i][c]);
+        printf("\n");
+    }
+}
+
 static void print_target(size_t rival, double most)
 {
     double taken = ratio(&streams[0], rival);
@@ -96,6 +115,14 @@ static void print_stack_target(const char *name, size_t stack)
            stack <= STACK_TARGET ? "met" : "missed");
 }
 
+static void print_page_target(size_t page)
+{
+    double calls = page_times[page][LIBRARY] / streams[0].least[LIBRARY];
+
+    printf("- the time of %.1f calls for a status page, %s; the target is at most %d: %s\n", calls, pages[page].name,
+           PAGE_TARGET, calls <= PAGE_TARGET ? "met" : "missed");
+}
+
 static void print_targets(void)
 {
     printf("\n");
@@ -107,6 +134,9 @@ static void print_targets(void)
     print_stack_target("boot", stacks[LIBRARY].boot);
     print_stack_target("a call", stacks[LIBRARY].call);
     print_stack_target("the check", stacks[LIBRARY].check);
+    print_stack_target("the status page", stacks[LIBRARY].page);
+    print_page_target(ALL_ON_ONE);
+    print_page_target(ALL_APART);
 }
 
 int main(int count, char **words)
@@ -128,6 +158,7 @@ int main(int count, char **words)
     print_stacks();
     for (size_t s = 0; s < scenes_count; s++)
         print_scene(&scenes[s], rounds);
+    print_pages(rounds);
     print_targets();
     return EXIT_SUCCESS;
 }

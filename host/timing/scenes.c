@@ -11,15 +11,20 @@ static void start(const Contender *contender, void *tables, int32_t priority)
     contender->one(tables, COTTONSEDGE_RESUME, cottonsedge_value(made), 0);
 }
 
-/* n processes wait on semaphore 0 and process 0 runs. */
-static void waiters(const Contender *contender, void *tables, int n)
+void make_waiters(const Contender *contender, void *tables, int n, int semaphores)
 {
     contender->boot(tables);
-    contender->one(tables, COTTONSEDGE_MAKE_SEMAPHORE, 0, 0);
+    for (int s = 0; s < semaphores; s++)
+        contender->one(tables, COTTONSEDGE_MAKE_SEMAPHORE, 0, 0);
     for (int i = 0; i < n; i++) {
         start(contender, tables, 20);
-        contender->one(tables, COTTONSEDGE_WAIT, 0, 0);
+        contender->one(tables, COTTONSEDGE_WAIT, i % semaphores, 0);
     }
+}
+
+static void waiters(const Contender *contender, void *tables, int n)
+{
+    make_waiters(contender, tables, n, 1);
 }
 
 /* n processes are ready, process 0 among them, and one of their equals runs. */

@@ -15,6 +15,9 @@ typedef struct {
 extern const Scene scenes[];
 extern const size_t scenes_count;
 
+/* n processes wait, on so many semaphores in turn, and process 0 runs. */
+void make_waiters(const Contender *contender, void *tables, int n, int semaphores);
+
 /* The best time of a call with n processes, the contenders taking turns. */
 void time_scene(const Scene *scene, int n, size_t rounds, double least[CONTENDERS]);
 

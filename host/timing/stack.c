@@ -4,6 +4,8 @@
 #include <string.h>
 #include <ucontext.h>
 
+#include "../../include/cottonsedge.h"
+
 enum { STACK = 64 * 1024, PAINT = 0x5a };
 
 static unsigned char stack[STACK];
@@ -12,12 +14,14 @@ static ucontext_t outside, inside;
 /* What the painted stack runs. */
 static const Contender *runner;
 static unsigned char lent[ROOM];
+static struct cottonsedge_row rows[COTTONSEDGE_PROCESSES];
 static Call made;
 
 static void run_nothing(void) {}
 static void run_boot(void) { runner->boot(lent); }
 static void run_call(void) { runner->one(lent, made.call, made.a, made.b); }
 static void run_check(void) { runner->check(lent, 1); }
+static void run_page(void) { runner->page(lent, rows, COTTONSEDGE_PROCESSES, 1); }
 
 static size_t used_by(void (*painted)(void))
 {
@@ -46,7 +50,7 @@ static size_t grown(size_t most, void (*painted)(void))
 
 Stack stack_used(const Contender *contender, const Call *calls, size_t n)
 {
-    Stack most = {0, 0, 0};
+    Stack most = {0, 0, 0, 0};
 
     runner = contender;
     most.boot = grown(0, run_boot);
@@ -54,6 +58,7 @@ Stack stack_used(const Contender *contender, const Call *calls, size_t n)
         made = calls[i];
         most.call = grown(most.call, run_call);
         most.check = grown(most.check, run_check);
+        most.page = grown(most.page, run_page);
     }
     return most;
 }

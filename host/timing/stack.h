@@ -8,9 +8,10 @@ typedef struct {
     size_t boot;
     size_t call;
     size_t check;
+    size_t page;
 } Stack;
 
-/* The most that each of the three used, over the calls from boot on. */
+/* The most that each of the four used, over the calls from boot on. */
 Stack stack_used(const Contender *contender, const Call *calls, size_t n);
 
 #endif
