@@ -44,8 +44,8 @@ module _ (bs : List ℕ) (lent : ℕ) where
   unfolding pageAnswer
   answer-done g l = rw (g, le-ltb lent many l)
 
-  pub cases {ℓ} : {P : Type ℓ} → (good bs ≡ false → P) → (good bs ≡ true → lent < many → P) → (good bs ≡ true → many ≤ lent → P) → P
-  cases bad few done = split (good bs) (λ g. below? lent many (few g) (done g)) bad
+  pub page-cases {ℓ} : {P : Type ℓ} → (good bs ≡ false → P) → (good bs ≡ true → lent < many → P) → (good bs ≡ true → many ≤ lent → P) → P
+  page-cases bad few done = split (good bs) (λ g. below? lent many (few g) (done g)) bad
 
   -- What the code tells
 
@@ -59,13 +59,13 @@ module _ (bs : List ℕ) (lent : ℕ) where
   -- What the walk asks
 
   -- no more rows are written than are lent
-  pub within : written (pageAnswer bs lent) ≤ lent
-  within = cases (λ g. rw (answer-bad g) (omega arith)) (λ g l. rw (answer-few g l) (omega arith)) (λ g l. rw (answer-done g l) l)
+  pub rows-within : written (pageAnswer bs lent) ≤ lent
+  rows-within = page-cases (λ g. rw (answer-bad g) (omega arith)) (λ g l. rw (answer-few g l) (omega arith)) (λ g l. rw (answer-done g l) l)
 
-  -- a row is asked for of good bytes only
-  pub asked : (i : ℕ) → i < written (pageAnswer bs lent) → wellFormed bs ≡ true
-  asked i h =
-      cases
+  -- a row is row-asked for of good bytes only
+  pub row-asked : (i : ℕ) → i < written (pageAnswer bs lent) → wellFormed bs ≡ true
+  row-asked i h =
+      page-cases
       (λ g. let k : i < 0 = rw (answer-bad g) at h in absurd (omega (arith, k)))
       (λ g l. let k : i < 0 = rw (answer-few g l) at h in absurd (omega (arith, k)))
       (λ g l. good-formed bs g)
@@ -81,7 +81,7 @@ unfolding rowsAfter
 page-is bs lent =
     let n : ℕ = length lent in
     let t : Tables = fromBytes bs in
-    cases bs n
+    page-cases bs n
     (λ g. rw (answer-bad bs n g))
     (λ g l. rw (answer-few bs n g l))
     (λ g l. rw (answer-done bs n g l) (filled-is (rowAt t) (length (live t)) lent l ∙ ap (λ (rs : List Row). rs ++ drop (length (live t)) lent) (each t) ∙ ap (λ (n : ℕ). rows t ++ drop n lent) (sym (rows-long t))))

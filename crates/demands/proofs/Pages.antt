@@ -33,7 +33,7 @@ use Rattle.status.proofs.Queues.{place-shown, queue-shown, rows-long}
 use Rattle.tables.proofs.LineLaws.{live-few}
 use Rattle.tables.proofs.Sentences.{live-some}
 use Rattle.cottonsedge.proofs.FieldLaws.{packed-small, process-back, refusal-back, value-back}
-use Rattle.cottonsedge.proofs.PageLaws.{answer-bad, answer-done, answer-few, cases}
+use Rattle.cottonsedge.proofs.PageLaws.{answer-bad, answer-done, answer-few, page-cases}
 use Rattle.demands.specs.Demands.{Demand2, Kernel}
 use Rattle.demands.specs.Pages.{PageAllowed, PageResult, PageTold, reasonsOfPage, shownBy}
 use Rattle.demands.specs.Sessions.{AllAsked, exchanges, left, recordSeen}
@@ -44,11 +44,11 @@ pub page-once : {bs : List ℕ} {lent : List Row} {x y : PageResult} → PageAll
 page-once c d = λ i. record { answer = (c .answer ∙ sym (d .answer)) i; rows = (c .rows ∙ sym (d .rows)) i }
 
 -- what the contract allows
-abbrev exact : List ℕ → List Row → PageResult
-exact bs lent = record { answer = packed (pageAnswer bs (length lent)) (currentByte bs); rows = rowsAfter bs lent }
+abbrev exactPage : List ℕ → List Row → PageResult
+exactPage bs lent = record { answer = packed (pageAnswer bs (length lent)) (currentByte bs); rows = rowsAfter bs lent }
 
 -- and there is one
-pub page-met : (bs : List ℕ) (lent : List Row) → PageAllowed bs lent (exact bs lent)
+pub page-met : (bs : List ℕ) (lent : List Row) → PageAllowed bs lent (exactPage bs lent)
 page-met bs lent = record { answer = refl; rows = refl }
 
 -- What is answered
@@ -60,10 +60,10 @@ module _ (bs : List ℕ) (lent : List Row) where
   abbrev z : Answer
   z = pageAnswer bs (length lent)
 
-  -- its parts, in each of the three cases
+  -- its parts, in each of the three page-cases
   in-range : SFits w32 (valueOf z) × (numberOf z < 256)
   in-range =
-      cases bs (length lent)
+      page-cases bs (length lent)
       (λ g. rw (answer-bad bs (length lent) g) (record { sfits = omega arith }, omega arith))
       (λ g l. rw (answer-few bs (length lent) g l) (record { sfits = omega arith }, omega arith))
       (λ g l. rw (answer-done bs (length lent) g l) (record { sfits = omega (arith, live-few (fromBytes bs)) }, omega arith))
@@ -81,7 +81,7 @@ module _ (bs : List ℕ) (lent : List Row) where
 
   done : numberOf z ≡ 0 → z ≡ Done (pos many)
   done h =
-      cases bs (length lent)
+      page-cases bs (length lent)
       (λ g. let k : 15 ≡ 0 = rw (answer-bad bs (length lent) g) at h in absurd (omega (arith, k)))
       (λ g l. let k : 16 ≡ 0 = rw (answer-few bs (length lent) g l) at h in absurd (omega (arith, k)))
       (answer-done bs (length lent))
@@ -98,7 +98,7 @@ module _ (bs : List ℕ) (lent : List Row) where
     unfolding rowsAfter
     all-rows = ap (λ (w : Answer). leftBy w (rows (fromBytes bs)) lent) (done (sym refusal ∙ h))
 
-  exact-told : PageTold bs lent (exact bs lent)
+  exact-told : PageTold bs lent (exactPage bs lent)
   exact-told =
       record {
         small = packed-small z (currentByte bs) (in-range .0) (current-small bs) (in-range .1);
@@ -110,14 +110,14 @@ module _ (bs : List ℕ) (lent : List Row) where
       }
 
   -- each number exactly when its reason holds and none before it
-  exact-given : (n : ℕ) → n ≢ 0 → (refusalField (exact bs lent .answer) ≡ n) ↔ FirstOf (reasonsOfPage bs lent) n
+  exact-given : (n : ℕ) → n ≢ 0 → (refusalField (exactPage bs lent .answer) ≡ n) ↔ FirstOf (reasonsOfPage bs lent) n
   exact-given n h =
-      cases bs (length lent)
-      (λ g. let e : refusalField (exact bs lent .answer) ≡ 15 = refusal ∙ ap numberOf (answer-bad bs (length lent) g) in
+      page-cases bs (length lent)
+      (λ g. let e : refusalField (exactPage bs lent .answer) ≡ 15 = refusal ∙ ap numberOf (answer-bad bs (length lent) g) in
       (λ w. inl (sym e ∙ w, g), ⊎-elim (λ w. e ∙ w .0) (λ w. absurd (w .0 g))))
-      (λ g l. let e : refusalField (exact bs lent .answer) ≡ 16 = refusal ∙ ap numberOf (answer-few bs (length lent) g l) in
+      (λ g l. let e : refusalField (exactPage bs lent .answer) ≡ 16 = refusal ∙ ap numberOf (answer-few bs (length lent) g l) in
       (λ w. inr (λ f. true≢false (sym g ∙ f), inl (sym e ∙ w, l)), ⊎-elim (λ w. absurd (true≢false (sym g ∙ w .1))) (λ w. ⊎-elim (λ v. e ∙ v .0) (λ v. absurd (v .0 l)) (w .1))))
-      (λ g l. let e : refusalField (exact bs lent .answer) ≡ 0 = refusal ∙ ap numberOf (answer-done bs (length lent) g l) in
+      (λ g l. let e : refusalField (exactPage bs lent .answer) ≡ 0 = refusal ∙ ap numberOf (answer-done bs (length lent) g l) in
       (λ w. absurd (h (sym w ∙ e)), ⊎-elim (λ w. absurd (true≢false (sym g ∙ w .1))) (λ w. ⊎-elim (λ v. absurd (omega (arith, l, v .1))) (λ v. absurd (v .1)) (w .1))))
 
 -- Of every result that the contract allows
@@ -140,23 +140,23 @@ module _ (bs : List ℕ) (lent : List Row) (x : PageResult) (c : PageAllowed bs 
 -- Of the bytes that any session leaves, begun with what `cottonsedge_boot` writes
 
 module _ (k : Kernel) (d : Demand2 k) (bs : List ℕ) (l : length bs ≡ size) (requests : List Request) (hs : AllAsked requests) where
-  abbrev after : List ℕ
-  after = left k (booted bs) requests
+  abbrev bytes : List ℕ
+  bytes = left k (booted bs) requests
 
-  abbrev seen : List Entry
-  seen = recordSeen (exchanges k (booted bs) requests)
+  abbrev entries : List Entry
+  entries = recordSeen (exchanges k (booted bs) requests)
 
-  module _ (lent : List Row) (x : PageResult) (c : PageAllowed after lent x) (h : refusalField (x .answer) ≡ 0) where
+  module _ (lent : List Row) (x : PageResult) (c : PageAllowed bytes lent x) (h : refusalField (x .answer) ≡ 0) where
     -- at each place of each queue the rows show who the record says is blocked there, and nobody else
-    pub page-places : (s n : ℕ) → shownAt (shownBy x) s n ≡ atPlace n (blocked seen s)
+    pub page-places : (s n : ℕ) → shownAt (shownBy x) s n ≡ atPlace n (blocked entries s)
     page-places s n =
-        ap (λ (rs : List Row). shownAt rs s n) (page-told after lent x c .shown h)
-        ∙ place-shown (good-sound after (left-good k d bs l requests hs)) s n
+        ap (λ (rs : List Row). shownAt rs s n) (page-told bytes lent x c .shown h)
+        ∙ place-shown (good-sound bytes (left-good k d bs l requests hs)) s n
         ∙ ap (atPlace n) (demand3-queue (demand3-of-bytes k d bs l requests hs) s)
 
     -- so each queue read by place is those still blocked, oldest first
-    pub page-queues : (s : ℕ) → queueShown (shownBy x) s ≡ blocked seen s
+    pub page-queues : (s : ℕ) → queueShown (shownBy x) s ≡ blocked entries s
     page-queues s =
-        ap (λ (rs : List Row). queueShown rs s) (page-told after lent x c .shown h)
-        ∙ queue-shown (good-sound after (left-good k d bs l requests hs)) s
+        ap (λ (rs : List Row). queueShown rs s) (page-told bytes lent x c .shown h)
+        ∙ queue-shown (good-sound bytes (left-good k d bs l requests hs)) s
         ∙ demand3-queue (demand3-of-bytes k d bs l requests hs) s

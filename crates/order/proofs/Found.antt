@@ -31,82 +31,82 @@ place-byte bs i q h at t st = ap (λ (z : ℕ). getD bs (statesAt + z) 0) (at t 
 
 -- Those of byte b in the row, from place i on
 
-abbrev pub onward : ℕ → Tables → ℕ → List ℕ
-onward b t i = filter (λ p. byByte b (stateOf t p)) (drop i (t .order))
+abbrev pub rest : ℕ → Tables → ℕ → List ℕ
+rest b t i = filter (λ p. byByte b (stateOf t p)) (drop i (t .order))
 
 module _ (b : ℕ) (bs : List ℕ) (t : Tables) (st : Stands t bs) where
-  pub onward-all : onward b t 0 ≡ line t (byByte b)
+  pub rest-all : rest b t 0 ≡ line t (byByte b)
   unfolding line
-  onward-all = refl
+  rest-all = refl
 
   module _ (i q : ℕ) (h : i < processLimit) (at : Tells (λ t. getD (t .order) i 0) bs q) where
     long : i < length (t .order)
     long = omega (arith, st .held .places)
 
-    pub onward-in : getD bs (statesAt + q) 0 ≡ b → onward b t i ≡ q ∷ onward b t (i + 1)
+    pub rest-in : getD bs (statesAt + q) 0 ≡ b → rest b t i ≡ q ∷ rest b t (i + 1)
     unfolding Tells
-    onward-in e =
+    rest-in e =
         filter-in (λ p. byByte b (stateOf t p)) (t .order) i long (eq-eqb _ b (sym (place-byte bs i q h at t st) ∙ e))
-        ∙ ap (λ (x : ℕ). x ∷ onward b t (i + 1)) (sym (at t st))
+        ∙ ap (λ (x : ℕ). x ∷ rest b t (i + 1)) (sym (at t st))
 
-    pub onward-over : (getD bs (statesAt + q) 0 ≡ b → ⊥) → onward b t i ≡ onward b t (i + 1)
-    onward-over e = filter-over (λ p. byByte b (stateOf t p)) (t .order) i long (ne-eqb _ b (λ z. e (place-byte bs i q h at t st ∙ z)))
+    pub rest-over : (getD bs (statesAt + q) 0 ≡ b → ⊥) → rest b t i ≡ rest b t (i + 1)
+    rest-over e = filter-over (λ p. byByte b (stateOf t p)) (t .order) i long (ne-eqb _ b (λ z. e (place-byte bs i q h at t st ∙ z)))
 
-  pub onward-none : (i : ℕ) → processLimit ≤ i → onward b t i ≡ []
-  onward-none i h = filter-done (λ p. byByte b (stateOf t p)) (t .order) i (omega (arith, st .held .places))
+  pub rest-none : (i : ℕ) → processLimit ≤ i → rest b t i ≡ []
+  rest-none i h = filter-done (λ p. byByte b (stateOf t p)) (t .order) i (omega (arith, st .held .places))
 
 -- from place i on the search finds what it finds from the start
 unfoldable pub Scans : ℕ → ℕ → List ℕ → Type 0
-Scans b i bs = (t : Tables) → Stands t bs → firstOr processLimit (onward b t i) ≡ found b t
+Scans b i bs = (t : Tables) → Stands t bs → firstOr processLimit (rest b t i) ≡ found b t
 
 module _ (b : ℕ) (bs : List ℕ) where
   pub scan-start : Scans b 0 bs
   unfolding Scans
-  scan-start t st = ap (firstOr processLimit) (onward-all b bs t st)
+  scan-start t st = ap (firstOr processLimit) (rest-all b bs t st)
 
   module _ (i q : ℕ) (h : i < processLimit) (at : Tells (λ t. getD (t .order) i 0) bs q) (s : Scans b i bs) where
     pub scan-here : getD bs (statesAt + q) 0 ≡ b → Tells (found b) bs q
     unfolding Tells Scans firstOr
-    scan-here e t st = rw (onward-in b bs t st i q h at e) at (s t st)
+    scan-here e t st = rw (rest-in b bs t st i q h at e) at (s t st)
 
     pub scan-on : (getD bs (statesAt + q) 0 ≡ b → ⊥) → Scans b (i + 1) bs
     unfolding Scans
-    scan-on e t st = ap (firstOr processLimit) (sym (onward-over b bs t st i q h at e)) ∙ s t st
+    scan-on e t st = ap (firstOr processLimit) (sym (rest-over b bs t st i q h at e)) ∙ s t st
 
   pub scan-end : (i : ℕ) → processLimit ≤ i → Scans b i bs → Tells (found b) bs processLimit
   unfolding Tells Scans firstOr
-  scan-end i h s t st = rw (onward-none b bs t st i h) at (s t st)
+  scan-end i h s t st = rw (rest-none b bs t st i h) at (s t st)
 
 -- from place i on the count goes from n to the place of p
-unfoldable pub Counts : ℕ → ℕ → ℕ → ℕ → List ℕ → Type 0
-Counts b p i n bs = (t : Tables) → Stands t bs → n + placeIn p (onward b t i) ≡ suc (placeAmong b p t)
+unfoldable pub CountsTo : ℕ → ℕ → ℕ → ℕ → List ℕ → Type 0
+CountsTo b p i n bs = (t : Tables) → Stands t bs → n + placeIn p (rest b t i) ≡ suc (placeAmong b p t)
 
 module _ (b p : ℕ) (bs : List ℕ) where
-  pub count-start : Counts b p 0 1 bs
-  unfolding Counts
-  count-start t st = rw (onward-all b bs t st) (omega arith)
+  pub count-start : CountsTo b p 0 1 bs
+  unfolding CountsTo
+  count-start t st = rw (rest-all b bs t st) (omega arith)
 
-  module _ (i n q : ℕ) (h : i < processLimit) (at : Tells (λ t. getD (t .order) i 0) bs q) (c : Counts b p i n bs) where
+  module _ (i n q : ℕ) (h : i < processLimit) (at : Tells (λ t. getD (t .order) i 0) bs q) (c : CountsTo b p i n bs) where
     pub count-here : getD bs (statesAt + q) 0 ≡ b → q ≡ p → Tells (placeAmong b p) bs n
-    unfolding Tells Counts
+    unfolding Tells CountsTo
     count-here e d t st =
-        let one : placeIn p (onward b t i) ≡ 1 = ap (placeIn p) (onward-in b bs t st i q h at e ∙ ap (λ (x : ℕ). x ∷ onward b t (i + 1)) d) ∙ place-here p (onward b t (i + 1)) in
+        let one : placeIn p (rest b t i) ≡ 1 = ap (placeIn p) (rest-in b bs t st i q h at e ∙ ap (λ (x : ℕ). x ∷ rest b t (i + 1)) d) ∙ place-here p (rest b t (i + 1)) in
         omega (arith, c t st, one)
 
-    pub count-past : getD bs (statesAt + q) 0 ≡ b → (q ≡ p → ⊥) → Counts b p (i + 1) (n + 1) bs
-    unfolding Counts
+    pub count-past : getD bs (statesAt + q) 0 ≡ b → (q ≡ p → ⊥) → CountsTo b p (i + 1) (n + 1) bs
+    unfolding CountsTo
     count-past e d t st =
-        let more : placeIn p (onward b t i) ≡ suc (placeIn p (onward b t (i + 1))) = ap (placeIn p) (onward-in b bs t st i q h at e) ∙ place-on p q (onward b t (i + 1)) d in
+        let more : placeIn p (rest b t i) ≡ suc (placeIn p (rest b t (i + 1))) = ap (placeIn p) (rest-in b bs t st i q h at e) ∙ place-on p q (rest b t (i + 1)) d in
         omega (arith, c t st, more)
 
-    pub count-over : (getD bs (statesAt + q) 0 ≡ b → ⊥) → Counts b p (i + 1) n bs
-    unfolding Counts
-    count-over e t st = ap (λ (l : List ℕ). n + placeIn p l) (sym (onward-over b bs t st i q h at e)) ∙ c t st
+    pub count-over : (getD bs (statesAt + q) 0 ≡ b → ⊥) → CountsTo b p (i + 1) n bs
+    unfolding CountsTo
+    count-over e t st = ap (λ (l : List ℕ). n + placeIn p l) (sym (rest-over b bs t st i q h at e)) ∙ c t st
 
-  pub count-end : (i n : ℕ) → processLimit ≤ i → Counts b p i n bs → Tells (placeAmong b p) bs n
-  unfolding Tells Counts
+  pub count-end : (i n : ℕ) → processLimit ≤ i → CountsTo b p i n bs → Tells (placeAmong b p) bs n
+  unfolding Tells CountsTo
   count-end i n h c t st =
-      let one : placeIn p (onward b t i) ≡ 1 = ap (placeIn p) (onward-none b bs t st i h) ∙ place-none p in
+      let one : placeIn p (rest b t i) ≡ 1 = ap (placeIn p) (rest-none b bs t st i h) ∙ place-none p in
       omega (arith, c t st, one)
 
 -- A line by the byte of the state

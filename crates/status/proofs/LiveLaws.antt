@@ -53,25 +53,25 @@ module _ (t : Tables) (i : ℕ) (h : i < processLimit) where
 -- Counting them
 
 -- so many before number i, and those from there on, are all
-unfoldable pub Counted : ℕ → ℕ → List ℕ → Type 0
-Counted i n bs = (t : Tables) → Stands t bs → n + length (from t i) ≡ length (live t)
+unfoldable pub CountsLive : ℕ → ℕ → List ℕ → Type 0
+CountsLive i n bs = (t : Tables) → Stands t bs → n + length (from t i) ≡ length (live t)
 
 module _ (bs : List ℕ) where
-  pub counted-start : Counted 0 0 bs
-  unfolding Counted
+  pub counted-start : CountsLive 0 0 bs
+  unfolding CountsLive
   counted-start t st = rw (from-all t) (omega arith)
 
-  module _ (i n : ℕ) (h : i < processLimit) (b : Bool) (told : Tells (λ t. not (isFree (stateOf t i))) bs b) (c : Counted i n bs) where
-    pub counted-in : b ≡ true → Counted (i + 1) (n + 1) bs
-    unfolding Tells Counted
+  module _ (i n : ℕ) (h : i < processLimit) (b : Bool) (told : Tells (λ t. not (isFree (stateOf t i))) bs b) (c : CountsLive i n bs) where
+    pub counted-in : b ≡ true → CountsLive (i + 1) (n + 1) bs
+    unfolding Tells CountsLive
     counted-in e t st = let k : length (from t i) ≡ suc (length (from t (i + 1))) = ap length (from-in t i h (sym e ∙ told t st)) in omega (arith, c t st, k)
 
-    pub counted-over : b ≡ false → Counted (i + 1) n bs
-    unfolding Tells Counted
+    pub counted-over : b ≡ false → CountsLive (i + 1) n bs
+    unfolding Tells CountsLive
     counted-over e t st = ap (λ (l : List ℕ). n + length l) (sym (from-over t i h (sym e ∙ told t st))) ∙ c t st
 
-  pub counted-end : (i n : ℕ) → processLimit ≤ i → Counted i n bs → Tells (λ t. length (live t)) bs n
-  unfolding Tells Counted
+  pub counted-end : (i n : ℕ) → processLimit ≤ i → CountsLive i n bs → Tells (λ t. length (live t)) bs n
+  unfolding Tells CountsLive
   counted-end i n h c t st = let k : length (from t i) ≡ 0 = ap length (from-none t i h) in omega (arith, c t st, k)
 
 -- Finding one of them

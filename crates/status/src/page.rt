@@ -28,7 +28,7 @@ fn state_number(state: State) -> u8
     }
 }
 
-fn awaited(state: State) -> u8
+fn awaited_shown(state: State) -> u8
     ensures { λ r. ⌜ r ≡ awaitedShown (awaits state) ⌝ }
 {
     match state {
@@ -40,7 +40,7 @@ fn awaited(state: State) -> u8
     }
 }
 
-fn place(bytes: &[u8], p: u8, state: State) -> u8
+fn place_shown(bytes: &[u8], p: u8, state: State) -> u8
     requires { ⌜ length (now bytes) ≡ size ⌝ }
     ensures { λ r. ⌜ (Named state → Tells (λ t. placeShown t p (awaits state)) (now (bytes .entry)) r) ⌝ }
 {
@@ -63,8 +63,8 @@ fn row_of(bytes: &[u8], p: u8) -> Row
         number: p,
         state: state_number(state),
         priority: x.priority,
-        awaited: awaited(state),
-        place: place(bytes, p, state),
+        awaited: awaited_shown(state),
+        place: place_shown(bytes, p, state),
     }
 }
 

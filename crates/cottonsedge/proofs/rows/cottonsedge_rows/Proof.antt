@@ -60,7 +60,7 @@ use Rattle.cottonsedge.specs.Pages.{pageOf}
 use Rattle.status.specs.declared.Row.{Row}
 use Rattle.cottonsedge.specs.declared.rows.Page.{Page}
 use Rattle.lists.proofs.Filled.{filled, length-filled}
-use Rattle.cottonsedge.proofs.PageLaws.{asked, page-is, within}
+use Rattle.cottonsedge.proofs.PageLaws.{row-asked, page-is, rows-within}
 use Rattle.status.proofs.Row as T
 use Rattle.status.proofs.Row.Laws as T′
 use Rattle.cottonsedge.proofs.rows.Page as U
@@ -234,7 +234,7 @@ module _ {M : Type 1} (𝓤 : URA M) (H : Heap 𝓤) (A : Atoms 𝓤) (W : Given
           rewrite ! 2 (λ (t : Bool). ‵ (fat fullShare tyBool l₆ 0 (vbool t))) (lt-ltb i (m .rows) small) refl $
           stays ! (load ! (from ! (stop !)) (look ! 2 refl)) $
           -- the row is computed by the covered function
-          move ! (9 ∷ 10 ∷ []) $ use2 W (raw (RowAt 𝓤 H A mem run .pre (to-row-at i)) ⊛ ‵ Own) (goes-row-at i i-fits (asked bs (length xs) i small)) $ split ! $
+          move ! (9 ∷ 10 ∷ []) $ use2 W (raw (RowAt 𝓤 H A mem run .pre (to-row-at i)) ⊛ ‵ Own) (goes-row-at i i-fits (row-asked bs (length xs) i small)) $ split ! $
           calls-at ! fm (RowAt 𝓤 H A mem run) known-row-at (to-row-at i) (and-then ! (load ! (from ! (stop !)) (look ! 8 refl)) (and-then ! (load ! (from ! (stop !)) (look ! 3 refl)) (no-more !))) (λ u.
           use1 W (later (some (λ (r : Row). ((‵ (flft κ q) ⊛ ‵ ftrue) ⊛ ‵ (R .own r (u ∷ []))) ⊛ raw (ensured 𝓤 H A row-at.ended (row-at.clauses 𝓤 H A mem run) (κ, tt) (s, (i, tt)) tt r)))) (id⊢ 𝓤 _) $ await ! tt $ pick ! (λ r.
           split ! $ move ! (1 ∷ []) $ use1 W (raw (fact 𝓤 (r ≡ f i))) (row-at-said i r) $ heard ! (r ≡ f i) (λ e. split ! $ move ! (1 ∷ []) $
@@ -259,7 +259,7 @@ module _ {M : Type 1} (𝓤 : URA M) (H : Heap 𝓤) (A : Atoms 𝓤) (W : Given
           keep ! (2 ∷ 4 ∷ 5 ∷ 6 ∷ 7 ∷ 8 ∷ 9 ∷ 10 ∷ 11 ∷ 0 ∷ 3 ∷ 12 ∷ 13 ∷ 14 ∷ 15 ∷ 16 ∷ 17 ∷ 18 ∷ 19 ∷ 20 ∷ 21 ∷ 22 ∷ 23 ∷ 24 ∷ 25 ∷ 26 ∷ []) $ by ! k)))))
         where
           small-lent : i < length xs
-          small-lent = omega (arith, small, within bs (length xs))
+          small-lent = omega (arith, small, rows-within bs (length xs))
 
           inside : i < length (at-list i)
           inside = rw (length-filled f i xs) small-lent

@@ -5,11 +5,11 @@ use mathlib.Core.Logic.{⊎-elim}
 use borrow.Author.Needs.{needs}
 use Rattle.tables.specs.Limits.{processLimit}
 use Rattle.order.proofs.row.place_among.Statement.{statement}
-use Rattle.order.proofs.Found.{Counts, count-end, count-here, count-over, count-past, count-start}
+use Rattle.order.proofs.Found.{CountsTo, count-end, count-here, count-over, count-past, count-start}
 use Rattle.order.proofs.row.place_among.Tie as tie
 
 abbrev Inv-loop : tie.InvT-loop
-Inv-loop bytes p b n₀ i₀ n i = (i ≤ processLimit) × (n ≤ i + 1) × Counts b p i n bytes
+Inv-loop bytes p b n₀ i₀ n i = (i ≤ processLimit) × (n ≤ i + 1) × CountsTo b p i n bytes
 
 abbrev μ-loop : tie.MeasureT-loop
 μ-loop bytes p b n₀ i₀ n i = processLimit - i

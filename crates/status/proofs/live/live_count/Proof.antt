@@ -5,11 +5,11 @@ use mathlib.Core.Logic.{⊎-elim}
 use borrow.Author.Needs.{needs}
 use Rattle.tables.specs.Limits.{processLimit}
 use Rattle.status.proofs.live.live_count.Statement.{statement}
-use Rattle.status.proofs.LiveLaws.{Counted, counted-end, counted-in, counted-over, counted-start}
+use Rattle.status.proofs.LiveLaws.{CountsLive, counted-end, counted-in, counted-over, counted-start}
 use Rattle.status.proofs.live.live_count.Tie as tie
 
 abbrev Inv-loop : tie.InvT-loop
-Inv-loop bytes many₀ p₀ many p = (p ≤ processLimit) × (many ≤ p) × Counted p many bytes
+Inv-loop bytes many₀ p₀ many p = (p ≤ processLimit) × (many ≤ p) × CountsLive p many bytes
 
 abbrev μ-loop : tie.MeasureT-loop
 μ-loop bytes many₀ p₀ many p = processLimit - p

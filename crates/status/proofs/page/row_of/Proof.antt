@@ -4,7 +4,7 @@ use Rattle.status.proofs.RowLaws.{row-tells}
 use Rattle.status.proofs.page.row_of.Tie as tie
 
 returns : tie.Need-returns
-returns c = row-tells _ _ (c .before .before .before .process .result) _ _ _ (c .before .before .before .process .ensures) (c .before .before .state-number .ensures) (c .before .awaited .ensures) (c .place .ensures)
+returns c = row-tells _ _ (c .before .before .before .process .result) _ _ _ (c .before .before .before .process .ensures) (c .before .before .state-number .ensures) (c .before .awaited-shown .ensures) (c .place-shown .ensures)
 
 pub row-of-spec : {M : Type 1} → statement M
 row-of-spec =

@@ -2,9 +2,9 @@
 use mathlib.Core.Path.{ap}
 use borrow.Author.Needs.{needs}
 use Rattle.tables.specs.States.{awaits}
-use Rattle.status.proofs.page.place.Statement.{statement}
+use Rattle.status.proofs.page.place_shown.Statement.{statement}
 use Rattle.status.proofs.RowLaws.{place-of-none, place-of-waiter}
-use Rattle.status.proofs.page.place.Tie as tie
+use Rattle.status.proofs.page.place_shown.Tie as tie
 
 returns : tie.Need-returns
 returns c = let at = c .before .before .before .args in place-of-none (at .bytes .now) (at .p) (at .state) (ap awaits (c .enum-told .given .1))
@@ -23,8 +23,8 @@ returns-5 c =
     let at = c .before .before .before .before .before .args in
     place-of-waiter (at .bytes .now) (at .p) (at .state) _ _ _ (c .before .before .enum-told5 .given .1) (c .before .state-byte .ensures) (c .place-among .ensures)
 
-pub place-spec : {M : Type 1} → statement M
-place-spec =
+pub place-shown-spec : {M : Type 1} → statement M
+place-shown-spec =
     tie.close
     (tie.spec
     (λ c. search needs)
