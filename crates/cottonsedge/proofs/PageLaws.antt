@@ -16,12 +16,13 @@ use Rattle.tables.specs.declared.Tables.{Tables}
 use Rattle.rules.specs.declared.Answer.{Answer}
 use Rattle.rules.specs.declared.Answer.the-variants.{Done, Refused}
 use Rattle.status.specs.declared.Row.{Row}
-use Rattle.status.specs.Rows.{rowAt, rowOf, rows}
+use Rattle.status.specs.Rows.{rowFrom, rowOf, rows}
 use Rattle.layout.proofs.Image.{stands-read}
 use Rattle.lists.proofs.Bools.{below?, split}
 use Rattle.lists.proofs.Filled.{filled, filled-is}
 use Rattle.lists.proofs.NumberLaws.{listed-all}
 use Rattle.soundness.proofs.GoodBytes.{good-formed}
+use Rattle.status.proofs.LiveLaws.{next-first, nextOf}
 use Rattle.status.proofs.Queues.{rows-long}
 use Rattle.cottonsedge.specs.Fields.{packed}
 use Rattle.cottonsedge.specs.Pages.{pageAnswer, pageOf, rowsAfter, written}
@@ -62,13 +63,20 @@ module _ (bs : List ℕ) (lent : ℕ) where
   pub rows-within : written (pageAnswer bs lent) ≤ lent
   rows-within = page-cases (λ g. rw (answer-bad g) (omega arith)) (λ g l. rw (answer-few g l) (omega arith)) (λ g l. rw (answer-done g l) l)
 
-  -- a row is row-asked for of good bytes only
-  pub row-asked : (i : ℕ) → i < written (pageAnswer bs lent) → wellFormed bs ≡ true
-  row-asked i h =
+  -- a row is asked for of good bytes, and for a live process
+  row-due : (i : ℕ) → i < written (pageAnswer bs lent) → (good bs ≡ true) × (i < many)
+  row-due i h =
       page-cases
       (λ g. let k : i < 0 = rw (answer-bad g) at h in absurd (omega (arith, k)))
       (λ g l. let k : i < 0 = rw (answer-few g l) at h in absurd (omega (arith, k)))
-      (λ g l. good-formed bs g)
+      (λ g l. (g, rw (answer-done g l) at h))
+
+  pub row-asked : (i : ℕ) → i < written (pageAnswer bs lent) → wellFormed bs ≡ true
+  row-asked i h = good-formed bs (row-due i h .0)
+
+-- the row of the live process with i live ones before it
+abbrev pub rowAt : Tables → ℕ → Row
+rowAt t i = rowOf t (getD (live t) i 0)
 
 -- the rows one by one are the rows
 each : (t : Tables) → listed 0 (length (live t)) (rowAt t) ≡ rows t
@@ -85,3 +93,7 @@ page-is bs lent =
     (λ g. rw (answer-bad bs n g))
     (λ g l. rw (answer-few bs n g l))
     (λ g l. rw (answer-done bs n g l) (filled-is (rowAt t) (length (live t)) lent l ∙ ap (λ (rs : List Row). rs ++ drop (length (live t)) lent) (each t) ∙ ap (λ (n : ℕ). rows t ++ drop n lent) (sym (rows-long t))))
+
+-- from where the search begins it finds the row
+pub row-found : (bs : List ℕ) (lent i : ℕ) → i < written (pageAnswer bs lent) → rowFrom (fromBytes bs) (nextOf (fromBytes bs) i) ≡ rowAt (fromBytes bs) i
+row-found bs lent i h = ap (rowOf (fromBytes bs)) (next-first (fromBytes bs) i (row-due bs lent i h .1))

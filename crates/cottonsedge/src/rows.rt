@@ -5,7 +5,7 @@ use soundness::check::current;
 use soundness::running::UNKNOWN;
 use status::Row;
 use status::live::live_count;
-use status::page::row_at;
+use status::page::row_from;
 ghost use mathlib.Core.Path.{_≡_};
 ghost use Rattle.cottonsedge.specs.Pages.{Paged, pageOf};
 
@@ -45,8 +45,11 @@ pub extern "C" fn cottonsedge_rows(tables: &[u8], rows: &mut [Row]) -> u64
 {
     let page = page_of(tables, rows.len());
     let mut i: usize = 0;
+    let mut p = 0u8;
     while i < page.rows {
-        rows[i] = row_at(tables, i);
+        let row = row_from(tables, p);
+        p = row.number + 1;
+        rows[i] = row;
         i = i + 1;
     }
     page.answer

@@ -60,7 +60,7 @@ module _ (bs : List ℕ) (lent : List Row) where
   abbrev z : Answer
   z = pageAnswer bs (length lent)
 
-  -- its parts, in each of the three page-cases
+  -- its parts, in each of the three cases
   in-range : SFits w32 (valueOf z) × (numberOf z < 256)
   in-range =
       page-cases bs (length lent)

@@ -1,40 +1,41 @@
--- A turn of the walk over the slots. Assumes nothing.
-use Prim.Native.Nat.{_+_, _-_, _<_, _≤_, suc, ℕ}
+-- A turn of the walk over the slots, and the live processes one after the other. Assumes nothing.
+use Prim.Native.Nat.{_+_, _<_, _≤_, suc, zero, ℕ}
 use native.Mathlib.Omega.{arith}
 use mathlib.Core.Bool.{Bool, false, not, true}
-use mathlib.Core.List.{List, [], _∷_}
+use mathlib.Core.List.{List, [], _∷_, cons≢nil}
 use mathlib.Core.Path.{_∙_, _≡_, ap, refl, sym}
 use lib.Dec.{eqb}
-use lib.ListN.{drop, getD, length}
+use lib.ListN.{List·getD-eq-default, drop, getD, length}
+use lib.Seq.{drop-cons}
 use Rattle.layout.specs.Offsets.{statesAt}
 use Rattle.layout.specs.Stands.{Stands, Tells}
-use Rattle.lists.specs.Lists.{filter}
+use Rattle.lists.specs.Lists.{first, firstOr, times}
 use Rattle.lists.specs.Numbers.{countUp}
 use Rattle.tables.specs.Limits.{processLimit}
 use Rattle.tables.specs.Readers.{live, stateOf}
 use Rattle.tables.specs.States.{isFree}
 use Rattle.tables.specs.declared.Tables.{Tables}
 use Rattle.layout.proofs.Readers.{state-stands}
+use Rattle.lists.proofs.Bools.{below?, split}
+use Rattle.lists.proofs.ListLaws.{passes, times-filter}
 use Rattle.lists.proofs.NumberLaws.{listed-at, listed-length}
+use Rattle.lists.proofs.Rows.{row-countUp, times-at, within-member}
 use Rattle.lists.proofs.Walks.{filter-done, filter-in, filter-over}
 use Rattle.order.proofs.SearchLaws.{free-byte}
+use Rattle.status.specs.Rows.{liveFrom}
 
 pub live-byte : (bs : List ℕ) (p : ℕ) → p < processLimit → Tells (λ t. not (isFree (stateOf t p))) bs (not (eqb (getD bs (statesAt + p) 0) 0))
 unfolding Tells
 live-byte bs p h t st = ap not (ap (λ (b : ℕ). eqb b 0) (state-stands t bs st p h) ∙ free-byte (stateOf t p))
 
--- the live processes from number i on
-abbrev from : Tables → ℕ → List ℕ
-from t i = filter (λ p. not (isFree (stateOf t p))) (drop i (countUp 0 processLimit))
-
 long : length (countUp 0 processLimit) ≡ processLimit
 long = listed-length (λ i. i) 0 processLimit
 
-from-all : (t : Tables) → from t 0 ≡ live t
+from-all : (t : Tables) → liveFrom t 0 ≡ live t
 unfolding live
 from-all t = refl
 
-from-none : (t : Tables) (i : ℕ) → processLimit ≤ i → from t i ≡ []
+from-none : (t : Tables) (i : ℕ) → processLimit ≤ i → liveFrom t i ≡ []
 from-none t i h = filter-done (λ p. not (isFree (stateOf t p))) (countUp 0 processLimit) i (rw long h)
 
 module _ (t : Tables) (i : ℕ) (h : i < processLimit) where
@@ -44,17 +45,17 @@ module _ (t : Tables) (i : ℕ) (h : i < processLimit) where
   test : (b : Bool) → b ≡ not (isFree (stateOf t i)) → not (isFree (stateOf t (getD (countUp 0 processLimit) i 0))) ≡ b
   test b e = ap (λ (p : ℕ). not (isFree (stateOf t p))) at ∙ sym e
 
-  from-in : true ≡ not (isFree (stateOf t i)) → from t i ≡ i ∷ from t (i + 1)
-  from-in e = filter-in (λ p. not (isFree (stateOf t p))) (countUp 0 processLimit) i (rw long h) (test true e) ∙ ap (λ (p : ℕ). p ∷ from t (i + 1)) at
+  from-in : true ≡ not (isFree (stateOf t i)) → liveFrom t i ≡ i ∷ liveFrom t (i + 1)
+  from-in e = filter-in (λ p. not (isFree (stateOf t p))) (countUp 0 processLimit) i (rw long h) (test true e) ∙ ap (λ (p : ℕ). p ∷ liveFrom t (i + 1)) at
 
-  from-over : false ≡ not (isFree (stateOf t i)) → from t i ≡ from t (i + 1)
+  from-over : false ≡ not (isFree (stateOf t i)) → liveFrom t i ≡ liveFrom t (i + 1)
   from-over e = filter-over (λ p. not (isFree (stateOf t p))) (countUp 0 processLimit) i (rw long h) (test false e)
 
 -- Counting them
 
 -- so many before number i, and those from there on, are all
 unfoldable pub CountsLive : ℕ → ℕ → List ℕ → Type 0
-CountsLive i n bs = (t : Tables) → Stands t bs → n + length (from t i) ≡ length (live t)
+CountsLive i n bs = (t : Tables) → Stands t bs → n + length (liveFrom t i) ≡ length (live t)
 
 module _ (bs : List ℕ) where
   pub counted-start : CountsLive 0 0 bs
@@ -64,7 +65,7 @@ module _ (bs : List ℕ) where
   module _ (i n : ℕ) (h : i < processLimit) (b : Bool) (told : Tells (λ t. not (isFree (stateOf t i))) bs b) (c : CountsLive i n bs) where
     pub counted-in : b ≡ true → CountsLive (i + 1) (n + 1) bs
     unfolding Tells CountsLive
-    counted-in e t st = let k : length (from t i) ≡ suc (length (from t (i + 1))) = ap length (from-in t i h (sym e ∙ told t st)) in omega (arith, c t st, k)
+    counted-in e t st = let k : length (liveFrom t i) ≡ suc (length (liveFrom t (i + 1))) = ap length (from-in t i h (sym e ∙ told t st)) in omega (arith, c t st, k)
 
     pub counted-over : b ≡ false → CountsLive (i + 1) n bs
     unfolding Tells CountsLive
@@ -72,34 +73,71 @@ module _ (bs : List ℕ) where
 
   pub counted-end : (i n : ℕ) → processLimit ≤ i → CountsLive i n bs → Tells (λ t. length (live t)) bs n
   unfolding Tells CountsLive
-  counted-end i n h c t st = let k : length (from t i) ≡ 0 = ap length (from-none t i h) in omega (arith, c t st, k)
+  counted-end i n h c t st = let k : length (liveFrom t i) ≡ 0 = ap length (from-none t i h) in omega (arith, c t st, k)
 
--- Finding one of them
+-- Finding the first from a number on
 
--- what is found from number i on with so many to pass is what is found from the start
-unfoldable pub Seeks : ℕ → ℕ → ℕ → List ℕ → Type 0
-Seeks k i left bs = (t : Tables) → Stands t bs → getD (from t i) left 0 ≡ getD (live t) k 0
+-- from number q on the search finds what it finds from p on
+unfoldable pub Seeks : ℕ → ℕ → List ℕ → Type 0
+Seeks p q bs = (t : Tables) → Stands t bs → first (liveFrom t q) ≡ first (liveFrom t p)
 
-module _ (bs : List ℕ) (k : ℕ) where
-  pub seek-start : Seeks k 0 k bs
+module _ (bs : List ℕ) (p : ℕ) where
+  pub seek-start : Seeks p p bs
   unfolding Seeks
-  seek-start t st = ap (λ (l : List ℕ). getD l k 0) (from-all t)
+  seek-start t st = refl
 
-  module _ (i left : ℕ) (h : i < processLimit) (b : Bool) (told : Tells (λ t. not (isFree (stateOf t i))) bs b) (s : Seeks k i left bs) where
-    pub seek-here : b ≡ true → left ≡ 0 → Tells (λ t. getD (live t) k 0) bs i
+  module _ (q : ℕ) (h : q < processLimit) (b : Bool) (told : Tells (λ t. not (isFree (stateOf t q))) bs b) (s : Seeks p q bs) where
+    pub seek-here : b ≡ true → Tells (λ t. first (liveFrom t p)) bs q
+    unfolding Tells Seeks firstOr
+    seek-here e t st = rw (from-in t q h (sym e ∙ told t st)) at (s t st)
+
+    pub seek-on : b ≡ false → Seeks p (q + 1) bs
     unfolding Tells Seeks
-    seek-here e z t st = rw (z, from-in t i h (sym e ∙ told t st)) at (s t st)
+    seek-on e t st = sym (ap first (from-over t q h (sym e ∙ told t st))) ∙ s t st
 
-    pub seek-past : b ≡ true → (left ≡ 0 → ⊥) → Seeks k (i + 1) (left - 1) bs
-    unfolding Tells Seeks
-    seek-past e z t st =
-        let one : left ≡ suc (left - 1) = omega (arith, z) in
-        sym (ap (λ (j : ℕ). getD (i ∷ from t (i + 1)) j 0) one) ∙ sym (ap (λ (l : List ℕ). getD l left 0) (from-in t i h (sym e ∙ told t st))) ∙ s t st
+  pub seek-end : (q : ℕ) → processLimit ≤ q → Seeks p q bs → Tells (λ t. first (liveFrom t p)) bs 0
+  unfolding Tells Seeks firstOr
+  seek-end q h s t st = rw (from-none t q h) at (s t st)
 
-    pub seek-over : b ≡ false → Seeks k (i + 1) left bs
-    unfolding Tells Seeks
-    seek-over e t st = sym (ap (λ (l : List ℕ). getD l left 0) (from-over t i h (sym e ∙ told t st))) ∙ s t st
+-- One after the other
 
-  pub seek-end : (i left : ℕ) → processLimit ≤ i → Seeks k i left bs → Tells (λ t. getD (live t) k 0) bs 0
-  unfolding Tells Seeks
-  seek-end i left h s t st = sym (ap (λ (l : List ℕ). getD l left 0) (from-none t i h)) ∙ s t st
+module _ (t : Tables) where
+  -- behind the first from p on stand those from one past it on
+  past-first : (n p x : ℕ) (xs : List ℕ) → processLimit ≤ p + n → liveFrom t p ≡ x ∷ xs → liveFrom t (x + 1) ≡ xs
+  unfolding firstOr
+  past-first zero p x xs l e = absurd (cons≢nil (sym e ∙ from-none t p (omega arith)))
+  past-first (suc n) p x xs l e =
+      let on = past-first n (p + 1) x xs (omega arith) in
+      below? p processLimit
+      (λ h. split (not (isFree (stateOf t p)))
+      (λ d. let w = sym (from-in t p h (sym d)) ∙ e in ap (λ (y : ℕ). liveFrom t (y + 1)) (sym (ap first w)) ∙ ap (drop 1) w)
+      (λ d. on (sym (from-over t p h (sym d)) ∙ e)))
+      (λ h. absurd (cons≢nil (sym e ∙ from-none t p h)))
+
+  -- where the search for the live process with i before it begins
+  abbrev pub nextOf : ℕ → ℕ
+  nextOf zero = 0
+  nextOf (suc i) = getD (live t) i 0 + 1
+
+  next-live : (i : ℕ) → i ≤ length (live t) → liveFrom t (nextOf i) ≡ drop i (live t)
+  next-live zero h = from-all t
+  next-live (suc i) h = past-first processLimit (nextOf i) (getD (live t) i 0) (drop (suc i) (live t)) (omega arith) (next-live i (omega arith) ∙ drop-cons (live t) i 0 h)
+
+  -- it finds that one
+  pub next-first : (i : ℕ) → i < length (live t) → first (liveFrom t (nextOf i)) ≡ getD (live t) i 0
+  unfolding firstOr
+  next-first i h = ap first (next-live i (omega arith) ∙ drop-cons (live t) i 0 h)
+
+  live-inside : (i : ℕ) → i < length (live t) → getD (live t) i 0 < processLimit
+  unfolding live
+  live-inside i h =
+      let f : ℕ → Bool = λ p. not (isFree (stateOf t p)) in
+      let x : ℕ = getD (live t) i 0 in
+      let one : 1 ≤ times x (live t) = times-at (live t) i h in
+      let same : times x (live t) ≡ times x (countUp 0 processLimit) = times-filter x f (countUp 0 processLimit) ∙ rw (passes f (countUp 0 processLimit) x one) in
+      within-member processLimit (countUp 0 processLimit) x (row-countUp processLimit .inside) (omega (arith, one, same))
+
+  -- it begins below 256, so that it is passed in one byte
+  pub next-small : (i : ℕ) → nextOf i < 256
+  next-small zero = omega arith
+  next-small (suc i) = below? i (length (live t)) (λ h. omega (arith, live-inside i h)) (λ h. rw (List·getD-eq-default (live t) 0 {n = i} h) (omega arith))

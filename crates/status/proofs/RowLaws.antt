@@ -8,10 +8,10 @@ use lib.ListN.{getD}
 use borrow.Author.Tests.{lt-ltb}
 use Rattle.layout.specs.Bytes.{fromBytes, stateByte, wellFormed}
 use Rattle.layout.specs.Stands.{Named, Tells}
-use Rattle.lists.specs.Lists.{placeIn}
+use Rattle.lists.specs.Lists.{first, placeIn}
 use Rattle.order.specs.Row.{placeAmong}
 use Rattle.tables.specs.Limits.{processLimit, semaphoreLimit}
-use Rattle.tables.specs.Readers.{live, process}
+use Rattle.tables.specs.Readers.{process}
 use Rattle.tables.specs.States.{awaits}
 use Rattle.tables.specs.declared.Process.{Process}
 use Rattle.tables.specs.declared.State.{State}
@@ -19,7 +19,7 @@ use Rattle.tables.specs.declared.State.the-variants.{Waiting}
 use Rattle.layout.proofs.Image.{stands-read}
 use Rattle.order.proofs.Found.{line-queue}
 use Rattle.status.specs.declared.Row.{Row}
-use Rattle.status.specs.Rows.{awaitedShown, placeShown, rowAt, rowOf, stateNumber}
+use Rattle.status.specs.Rows.{awaitedShown, liveFrom, placeShown, rowFrom, rowOf, stateNumber}
 
 -- Its place, by its state
 
@@ -46,10 +46,10 @@ module _ (bs : List ℕ) (p : ℕ) (x : Process) (n a k : ℕ) where
       rw (en, ea, ek named t st, e)
 
 -- in well-formed bytes that is the row of the tables that they stand for
-pub row-at-is : (bs : List ℕ) (i p : ℕ) (r : Row) → ((j : ℕ) → getD bs j 0 < 256) → wellFormed bs ≡ true → (p < processLimit) × Tells (λ t. getD (live t) i 0) bs p
-    → (p < processLimit → Tells (λ t. rowOf t p) bs r) → r ≡ rowAt (fromBytes bs) i
+pub row-from-is : (bs : List ℕ) (p q : ℕ) (r : Row) → ((j : ℕ) → getD bs j 0 < 256) → wellFormed bs ≡ true → (q < processLimit) × Tells (λ t. first (liveFrom t p)) bs q
+    → (q < processLimit → Tells (λ t. rowOf t q) bs r) → r ≡ rowFrom (fromBytes bs) p
 unfolding Tells
-row-at-is bs i p r byte wf (h, found) row =
+row-from-is bs p q r byte wf (h, found) row =
     let t = fromBytes bs in
     let st = stands-read bs byte wf in
     row h t st ∙ ap (rowOf t) (found t st)

@@ -5,12 +5,14 @@ use tables::Tables;
 ghost use mathlib.Core.Path.{_≡_};
 ghost use Prim.Native.Nat.{_<_};
 ghost use mathlib.Core.Bool.{not};
-ghost use lib.ListN.{length, getD};
+ghost use lib.ListN.{length};
+ghost use Rattle.lists.specs.Lists.{first};
 ghost use Rattle.tables.specs.Limits.{processLimit};
 ghost use Rattle.tables.specs.Readers.{live, stateOf};
 ghost use Rattle.tables.specs.States.{isFree};
 ghost use Rattle.layout.specs.Offsets.{size};
 ghost use Rattle.layout.specs.Stands.{Tells};
+ghost use Rattle.status.specs.Rows.{liveFrom};
 
 fn is_live(bytes: &[u8], p: usize) -> bool
     requires { ⌜ (length (now bytes) ≡ size) × (p < processLimit) ⌝ }
@@ -32,19 +34,17 @@ pub fn live_count(bytes: &[u8]) -> u8
     many
 }
 
-// The one with `i` live ones before it; 0 where there is none.
-pub fn live_at(bytes: &[u8], i: usize) -> u8
+// The first one from `p` on; 0 where there is none.
+pub fn live_from(bytes: &[u8], p: u8) -> u8
     requires { ⌜ length (now bytes) ≡ size ⌝ }
-    ensures { λ r. ⌜ (r < processLimit) × Tells (λ t. getD (live t) i 0) (now (bytes .entry)) r ⌝ }
+    ensures { λ r. ⌜ (r < processLimit) × Tells (λ t. first (liveFrom t p)) (now (bytes .entry)) r ⌝ }
 {
-    let mut left = i;
-    for p in 0..Tables::PROCESSES {
-        if is_live(bytes, p) {
-            if left == 0 {
-                return p as u8;
-            }
-            left = left - 1;
+    let mut q = p as usize;
+    while q < Tables::PROCESSES {
+        if is_live(bytes, q) {
+            return q as u8;
         }
+        q = q + 1;
     }
     0
 }

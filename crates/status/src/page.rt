@@ -1,6 +1,6 @@
 // One row of the page.
 use crate::Row;
-use crate::live::live_at;
+use crate::live::live_from;
 use layout::fields::process;
 use layout::state::state_byte;
 use order::row::place_among;
@@ -14,7 +14,7 @@ ghost use Rattle.tables.specs.States.{awaits};
 ghost use Rattle.layout.specs.Offsets.{size};
 ghost use Rattle.layout.specs.Bytes.{fromBytes, wellFormed};
 ghost use Rattle.layout.specs.Stands.{Named, Tells};
-ghost use Rattle.status.specs.Rows.{awaitedShown, placeShown, rowAt, rowOf, stateNumber};
+ghost use Rattle.status.specs.Rows.{awaitedShown, placeShown, rowFrom, rowOf, stateNumber};
 
 fn state_number(state: State) -> u8
     ensures { λ r. ⌜ r ≡ stateNumber state ⌝ }
@@ -68,10 +68,10 @@ fn row_of(bytes: &[u8], p: u8) -> Row
     }
 }
 
-// The row of the live process with `i` live ones before it.
-pub fn row_at(bytes: &[u8], i: usize) -> Row
+// The row of the first live process from `p` on.
+pub fn row_from(bytes: &[u8], p: u8) -> Row
     requires { ⌜ wellFormed (now bytes) ≡ true ⌝ }
-    ensures { λ r. ⌜ r ≡ rowAt (fromBytes (now (bytes .entry))) i ⌝ }
+    ensures { λ r. ⌜ r ≡ rowFrom (fromBytes (now (bytes .entry))) p ⌝ }
 {
-    row_of(bytes, live_at(bytes, i))
+    row_of(bytes, live_from(bytes, p))
 }
