@@ -16,7 +16,8 @@ use Rattle.tables.specs.declared.Tables.{Tables}
 use Rattle.rules.specs.declared.Answer.{Answer}
 use Rattle.rules.specs.declared.Answer.the-variants.{Done, Refused}
 use Rattle.status.specs.declared.Row.{Row}
-use Rattle.status.specs.Rows.{rowFrom, rowOf, rows}
+use Rattle.status.specs.Rows.{rowOf, rows}
+use Rattle.status.specs.Search.{rowFrom}
 use Rattle.layout.proofs.Image.{stands-read}
 use Rattle.lists.proofs.Bools.{below?, split}
 use Rattle.lists.proofs.Filled.{filled, filled-is}
@@ -25,7 +26,8 @@ use Rattle.soundness.proofs.GoodBytes.{good-formed}
 use Rattle.status.proofs.LiveLaws.{next-first, nextOf}
 use Rattle.status.proofs.Queues.{rows-long}
 use Rattle.cottonsedge.specs.Fields.{packed}
-use Rattle.cottonsedge.specs.Pages.{pageAnswer, pageOf, rowsAfter, written}
+use Rattle.cottonsedge.specs.Pages.{pageAnswer, rowsAfter}
+use Rattle.cottonsedge.specs.Walk.{pageOf, written}
 
 module _ (bs : List ℕ) (lent : ℕ) where
   abbrev many : ℕ

@@ -1,3 +1,4 @@
 pub mod Fields
 pub mod Entries
 pub mod Pages
+pub mod Walk

@@ -1,7 +1,7 @@
 -- The status page: what is answered, and every row that is left, of any bytes and any rows that are lent.
 use Prim.Native.Nat.{ℕ}
 use lib.Dec.{ltb}
-use lib.IntN.{pos, natAbs}
+use lib.IntN.{pos}
 use lib.ListN.{drop, length}
 use mathlib.Core.List.{List, _++_}
 use mathlib.Core.Path.{_≡_}
@@ -13,7 +13,6 @@ use Rattle.rules.specs.declared.Answer.{Answer}
 use Rattle.rules.specs.declared.Answer.the-variants.{Done, Refused}
 use Rattle.status.specs.declared.Row.{Row}
 use Rattle.status.specs.Rows.{rows}
-use Rattle.cottonsedge.specs.declared.rows.Page.{Page}
 use Rattle.cottonsedge.specs.Fields.{packed}
 
 -- 15 first, then 16 if fewer rows are lent than there are live processes; else the number of rows, one for each
@@ -34,12 +33,3 @@ rowsAfter bs lent = leftBy (pageAnswer bs (length lent)) (rows (fromBytes bs)) l
 pub record Paged (bs : List ℕ) (lent : List Row) (r : ℕ) (after : List Row) : Type 0 where
   pub answer : r ≡ packed (pageAnswer bs (length lent)) (currentByte bs)
   pub rows : after ≡ rowsAfter bs lent
-
--- as the code has it before a row is written: the answer, and how many rows
-
-abbrev pub written : Answer → ℕ
-written (Done v) = natAbs v
-written (Refused n) = 0
-
-abbrev pub pageOf : List ℕ → ℕ → Page
-pageOf bs lent = record { answer = packed (pageAnswer bs lent) (currentByte bs); rows = written (pageAnswer bs lent) }

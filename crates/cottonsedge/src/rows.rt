@@ -7,7 +7,8 @@ use status::Row;
 use status::live::live_count;
 use status::page::row_from;
 ghost use mathlib.Core.Path.{_≡_};
-ghost use Rattle.cottonsedge.specs.Pages.{Paged, pageOf};
+ghost use Rattle.cottonsedge.specs.Pages.{Paged};
+ghost use Rattle.cottonsedge.specs.Walk.{pageOf};
 
 // What is answered, and how many rows are written.
 pub struct Page {
@@ -48,6 +49,7 @@ pub extern "C" fn cottonsedge_rows(tables: &[u8], rows: &mut [Row]) -> u64
     let mut p = 0u8;
     while i < page.rows {
         let row = row_from(tables, p);
+        // The next one is looked for behind it.
         p = row.number + 1;
         rows[i] = row;
         i = i + 1;

@@ -12,8 +12,7 @@ use Rattle.layout.specs.Stands.{Stands, Tells}
 use Rattle.lists.specs.Lists.{first, firstOr, times}
 use Rattle.lists.specs.Numbers.{countUp}
 use Rattle.tables.specs.Limits.{processLimit}
-use Rattle.tables.specs.Readers.{live, stateOf}
-use Rattle.tables.specs.States.{isFree}
+use Rattle.tables.specs.Readers.{isLive, live, stateOf}
 use Rattle.tables.specs.declared.Tables.{Tables}
 use Rattle.layout.proofs.Readers.{state-stands}
 use Rattle.lists.proofs.Bools.{below?, split}
@@ -22,9 +21,9 @@ use Rattle.lists.proofs.NumberLaws.{listed-at, listed-length}
 use Rattle.lists.proofs.Rows.{row-countUp, times-at, within-member}
 use Rattle.lists.proofs.Walks.{filter-done, filter-in, filter-over}
 use Rattle.order.proofs.SearchLaws.{free-byte}
-use Rattle.status.specs.Rows.{liveFrom}
+use Rattle.status.specs.Search.{liveFrom}
 
-pub live-byte : (bs : List ℕ) (p : ℕ) → p < processLimit → Tells (λ t. not (isFree (stateOf t p))) bs (not (eqb (getD bs (statesAt + p) 0) 0))
+pub live-byte : (bs : List ℕ) (p : ℕ) → p < processLimit → Tells (λ t. isLive t p) bs (not (eqb (getD bs (statesAt + p) 0) 0))
 unfolding Tells
 live-byte bs p h t st = ap not (ap (λ (b : ℕ). eqb b 0) (state-stands t bs st p h) ∙ free-byte (stateOf t p))
 
@@ -36,20 +35,20 @@ unfolding live
 from-all t = refl
 
 from-none : (t : Tables) (i : ℕ) → processLimit ≤ i → liveFrom t i ≡ []
-from-none t i h = filter-done (λ p. not (isFree (stateOf t p))) (countUp 0 processLimit) i (rw long h)
+from-none t i h = filter-done (isLive t) (countUp 0 processLimit) i (rw long h)
 
 module _ (t : Tables) (i : ℕ) (h : i < processLimit) where
   at : getD (countUp 0 processLimit) i 0 ≡ i
   at = listed-at (λ j. j) processLimit i 0 h
 
-  test : (b : Bool) → b ≡ not (isFree (stateOf t i)) → not (isFree (stateOf t (getD (countUp 0 processLimit) i 0))) ≡ b
-  test b e = ap (λ (p : ℕ). not (isFree (stateOf t p))) at ∙ sym e
+  test : (b : Bool) → b ≡ isLive t i → isLive t (getD (countUp 0 processLimit) i 0) ≡ b
+  test b e = ap (isLive t) at ∙ sym e
 
-  from-in : true ≡ not (isFree (stateOf t i)) → liveFrom t i ≡ i ∷ liveFrom t (i + 1)
-  from-in e = filter-in (λ p. not (isFree (stateOf t p))) (countUp 0 processLimit) i (rw long h) (test true e) ∙ ap (λ (p : ℕ). p ∷ liveFrom t (i + 1)) at
+  from-in : true ≡ isLive t i → liveFrom t i ≡ i ∷ liveFrom t (i + 1)
+  from-in e = filter-in (isLive t) (countUp 0 processLimit) i (rw long h) (test true e) ∙ ap (λ (p : ℕ). p ∷ liveFrom t (i + 1)) at
 
-  from-over : false ≡ not (isFree (stateOf t i)) → liveFrom t i ≡ liveFrom t (i + 1)
-  from-over e = filter-over (λ p. not (isFree (stateOf t p))) (countUp 0 processLimit) i (rw long h) (test false e)
+  from-over : false ≡ isLive t i → liveFrom t i ≡ liveFrom t (i + 1)
+  from-over e = filter-over (isLive t) (countUp 0 processLimit) i (rw long h) (test false e)
 
 -- Counting them
 
@@ -62,7 +61,7 @@ module _ (bs : List ℕ) where
   unfolding CountsLive
   counted-start t st = rw (from-all t) (omega arith)
 
-  module _ (i n : ℕ) (h : i < processLimit) (b : Bool) (told : Tells (λ t. not (isFree (stateOf t i))) bs b) (c : CountsLive i n bs) where
+  module _ (i n : ℕ) (h : i < processLimit) (b : Bool) (told : Tells (λ t. isLive t i) bs b) (c : CountsLive i n bs) where
     pub counted-in : b ≡ true → CountsLive (i + 1) (n + 1) bs
     unfolding Tells CountsLive
     counted-in e t st = let k : length (liveFrom t i) ≡ suc (length (liveFrom t (i + 1))) = ap length (from-in t i h (sym e ∙ told t st)) in omega (arith, c t st, k)
@@ -86,7 +85,7 @@ module _ (bs : List ℕ) (p : ℕ) where
   unfolding Seeks
   seek-start t st = refl
 
-  module _ (q : ℕ) (h : q < processLimit) (b : Bool) (told : Tells (λ t. not (isFree (stateOf t q))) bs b) (s : Seeks p q bs) where
+  module _ (q : ℕ) (h : q < processLimit) (b : Bool) (told : Tells (λ t. isLive t q) bs b) (s : Seeks p q bs) where
     pub seek-here : b ≡ true → Tells (λ t. first (liveFrom t p)) bs q
     unfolding Tells Seeks firstOr
     seek-here e t st = rw (from-in t q h (sym e ∙ told t st)) at (s t st)
@@ -109,7 +108,7 @@ module _ (t : Tables) where
   past-first (suc n) p x xs l e =
       let on = past-first n (p + 1) x xs (omega arith) in
       below? p processLimit
-      (λ h. split (not (isFree (stateOf t p)))
+      (λ h. split (isLive t p)
       (λ d. let w = sym (from-in t p h (sym d)) ∙ e in ap (λ (y : ℕ). liveFrom t (y + 1)) (sym (ap first w)) ∙ ap (drop 1) w)
       (λ d. on (sym (from-over t p h (sym d)) ∙ e)))
       (λ h. absurd (cons≢nil (sym e ∙ from-none t p h)))
@@ -131,10 +130,9 @@ module _ (t : Tables) where
   live-inside : (i : ℕ) → i < length (live t) → getD (live t) i 0 < processLimit
   unfolding live
   live-inside i h =
-      let f : ℕ → Bool = λ p. not (isFree (stateOf t p)) in
       let x : ℕ = getD (live t) i 0 in
       let one : 1 ≤ times x (live t) = times-at (live t) i h in
-      let same : times x (live t) ≡ times x (countUp 0 processLimit) = times-filter x f (countUp 0 processLimit) ∙ rw (passes f (countUp 0 processLimit) x one) in
+      let same : times x (live t) ≡ times x (countUp 0 processLimit) = times-filter x (isLive t) (countUp 0 processLimit) ∙ rw (passes (isLive t) (countUp 0 processLimit) x one) in
       within-member processLimit (countUp 0 processLimit) x (row-countUp processLimit .inside) (omega (arith, one, same))
 
   -- it begins below 256, so that it is passed in one byte

@@ -18,7 +18,7 @@ use Rattle.tables.specs.declared.State.{State}
 use Rattle.tables.specs.declared.State.the-variants.{Current, Free, Ready, Suspended, Waiting}
 use Rattle.tables.specs.declared.Tables.{Tables}
 use Rattle.tables.specs.Limits.{processLimit}
-use Rattle.tables.specs.Readers.{live, queue, stateOf}
+use Rattle.tables.specs.Readers.{isLive, live, queue, stateOf}
 use Rattle.tables.specs.Sound.{Sound}
 use Rattle.tables.specs.States.{awaits, isFree, waitsOn}
 use Rattle.tables.proofs.LineLaws.{in-line-live, line-passes, live-below}
@@ -38,7 +38,7 @@ shown-rows t s k [] = refl
 shown-rows t s k (p ∷ ps) = ap (λ (l : List ℕ). if shows s k (rowOf t p) then p ∷ l else l) (shown-rows t s k ps)
 
 -- a live process's row shows place k of s exactly when it waits on s at that place
-shows-waiter : (t : Tables) (s k p : ℕ) → (not (isFree (stateOf t p)) && shows s k (rowOf t p)) ≡ (waitsOn s (stateOf t p) && eqb (placeIn p (queue t s)) k)
+shows-waiter : (t : Tables) (s k p : ℕ) → (isLive t p && shows s k (rowOf t p)) ≡ (waitsOn s (stateOf t p) && eqb (placeIn p (queue t s)) k)
 shows-waiter t s k p = by (stateOf t p)
   where
     by : (st : State) → (not (isFree st) && (eqb (stateNumber st) (stateNumber (Waiting s)) && (eqb (awaitedShown (awaits st)) s && eqb (placeShown t p (awaits st)) k))) ≡ (waitsOn s st && eqb (placeIn p (queue t s)) k)
@@ -65,7 +65,7 @@ module _ {t : Tables} (S : Sound t) (s : ℕ) where
   unfolding rows live
   shown-filter k =
       shown-rows t s k (live t)
-      ∙ filter-filter (λ p. shows s k (rowOf t p)) (λ p. not (isFree (stateOf t p))) (countUp 0 processLimit)
+      ∙ filter-filter (λ p. shows s k (rowOf t p)) (isLive t) (countUp 0 processLimit)
       ∙ filter-ext (countUp 0 processLimit) (shows-waiter t s k)
 
   -- nobody is shown at a place where no waiter stands

@@ -19,7 +19,8 @@ use Rattle.tables.specs.declared.State.the-variants.{Waiting}
 use Rattle.layout.proofs.Image.{stands-read}
 use Rattle.order.proofs.Found.{line-queue}
 use Rattle.status.specs.declared.Row.{Row}
-use Rattle.status.specs.Rows.{awaitedShown, liveFrom, placeShown, rowFrom, rowOf, stateNumber}
+use Rattle.status.specs.Rows.{awaitedShown, placeShown, rowOf, stateNumber}
+use Rattle.status.specs.Search.{liveFrom, rowFrom}
 
 -- Its place, by its state
 

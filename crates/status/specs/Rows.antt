@@ -1,16 +1,11 @@
 -- The status page: one row for each live process, in rising number.
 use Prim.Native.Nat.{ℕ}
-use mathlib.Core.Bool.{not}
 use mathlib.Core.List.{List, map}
 use mathlib.Core.Option.{Option, none, some}
-use lib.ListN.{drop}
-use Rattle.lists.specs.Lists.{filter, first}
-use Rattle.lists.specs.Numbers.{countUp}
 use Rattle.tables.specs.declared.State.{State}
 use Rattle.tables.specs.declared.State.the-variants.{Free, Current, Ready, Suspended, Waiting}
 use Rattle.tables.specs.declared.Tables.{Tables}
-use Rattle.tables.specs.Limits.{processLimit}
-use Rattle.tables.specs.States.{awaits, isFree}
+use Rattle.tables.specs.States.{awaits}
 use Rattle.tables.specs.Readers.{live, placeOf, priorityOf, stateOf}
 use Rattle.status.specs.declared.Row.{Row}
 
@@ -43,10 +38,3 @@ rowOf t p =
 
 unfoldable pub rows : Tables → List Row
 rows t = map (rowOf t) (live t)
-
--- as the code finds them: the live processes from number p on, and the row of the first of them
-abbrev pub liveFrom : Tables → ℕ → List ℕ
-liveFrom t p = filter (λ q. not (isFree (stateOf t q))) (drop p (countUp 0 processLimit))
-
-abbrev pub rowFrom : Tables → ℕ → Row
-rowFrom t p = rowOf t (first (liveFrom t p))

@@ -4,19 +4,17 @@ use layout::state::FREE;
 use tables::Tables;
 ghost use mathlib.Core.Path.{_≡_};
 ghost use Prim.Native.Nat.{_<_};
-ghost use mathlib.Core.Bool.{not};
 ghost use lib.ListN.{length};
 ghost use Rattle.lists.specs.Lists.{first};
 ghost use Rattle.tables.specs.Limits.{processLimit};
-ghost use Rattle.tables.specs.Readers.{live, stateOf};
-ghost use Rattle.tables.specs.States.{isFree};
+ghost use Rattle.tables.specs.Readers.{isLive, live};
 ghost use Rattle.layout.specs.Offsets.{size};
 ghost use Rattle.layout.specs.Stands.{Tells};
-ghost use Rattle.status.specs.Rows.{liveFrom};
+ghost use Rattle.status.specs.Search.{liveFrom};
 
 fn is_live(bytes: &[u8], p: usize) -> bool
     requires { ⌜ (length (now bytes) ≡ size) × (p < processLimit) ⌝ }
-    ensures { λ r. ⌜ Tells (λ t. not (isFree (stateOf t p))) (now (bytes .entry)) r ⌝ }
+    ensures { λ r. ⌜ Tells (λ t. isLive t p) (now (bytes .entry)) r ⌝ }
 {
     bytes[STATES + p] != FREE
 }

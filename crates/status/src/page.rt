@@ -14,7 +14,8 @@ ghost use Rattle.tables.specs.States.{awaits};
 ghost use Rattle.layout.specs.Offsets.{size};
 ghost use Rattle.layout.specs.Bytes.{fromBytes, wellFormed};
 ghost use Rattle.layout.specs.Stands.{Named, Tells};
-ghost use Rattle.status.specs.Rows.{awaitedShown, placeShown, rowFrom, rowOf, stateNumber};
+ghost use Rattle.status.specs.Rows.{awaitedShown, placeShown, rowOf, stateNumber};
+ghost use Rattle.status.specs.Search.{rowFrom};
 
 fn state_number(state: State) -> u8
     ensures { λ r. ⌜ r ≡ stateNumber state ⌝ }

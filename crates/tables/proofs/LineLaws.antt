@@ -21,7 +21,7 @@ use Rattle.tables.specs.declared.Semaphore.{Semaphore}
 use Rattle.tables.specs.declared.Tables.{Tables}
 use Rattle.tables.specs.Limits.{processLimit, semaphoreLimit}
 use Rattle.tables.specs.States.{isFree}
-use Rattle.tables.specs.Readers.{freeSlot, freeSemaphore, process, stateOf, priorityOf, semaphore, isUsed, line, live}
+use Rattle.tables.specs.Readers.{freeSlot, freeSemaphore, process, stateOf, priorityOf, semaphore, isUsed, isLive, line, live}
 use Rattle.tables.specs.Setters.{inState, withProcess, withState}
 use Rattle.tables.specs.Sound.{Laid}
 
@@ -134,6 +134,5 @@ module _ {t : Tables} (l : Laid t) where
 pub live-few : (t : Tables) → length (live t) ≤ processLimit
 unfolding live
 live-few t =
-    let f : ℕ → Bool = λ p. not (isFree (stateOf t p)) in
     let n : length (countUp 0 processLimit) ≡ processLimit = listed-length (λ i. i) 0 processLimit in
-    omega (arith, length-split f (countUp 0 processLimit), n)
+    omega (arith, length-split (isLive t) (countUp 0 processLimit), n)

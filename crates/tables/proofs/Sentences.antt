@@ -15,7 +15,7 @@ use Rattle.tables.specs.declared.State.the-variants.{Current, Waiting}
 use Rattle.tables.specs.declared.Tables.{Tables}
 use Rattle.tables.specs.Limits.{processLimit, semaphoreLimit}
 use Rattle.tables.specs.States.{isFree, isCurrent, isReady, waitsOn}
-use Rattle.tables.specs.Readers.{stateOf, isUsed, line, live, queue, currents, currentOf}
+use Rattle.tables.specs.Readers.{stateOf, isUsed, isLive, line, live, queue, currents, currentOf}
 use Rattle.tables.specs.Sound.{Running, Sound, Sentences}
 use Rattle.tables.proofs.States.{is-current, is-ready, waits-on}
 use Rattle.tables.proofs.LineLaws.{line-first, line-passes, live-below, live-once, used-below, in-line-live}
@@ -74,7 +74,6 @@ few-wait {t} S s =
 pub live-some : {t : Tables} → Sound t → 1 ≤ length (live t)
 unfolding live
 live-some {t} S =
-    let f : ℕ → Bool = λ p. not (isFree (stateOf t p)) in
     let zero : isFree (stateOf t 0) ≡ false = split (isCurrent (stateOf t 0)) (λ e. ap isFree (is-current (stateOf t 0) e)) (λ e. ap isFree (is-ready (stateOf t 0) (rw e at (S .running .zero)))) in
-    let one : times 0 (filter f (countUp 0 processLimit)) ≡ 1 = times-filter 0 f (countUp 0 processLimit) ∙ rw zero (row-countUp processLimit .once 0 (omega arith)) in
-    omega (arith, times-length 0 (filter f (countUp 0 processLimit)))
+    let one : times 0 (filter (isLive t) (countUp 0 processLimit)) ≡ 1 = times-filter 0 (isLive t) (countUp 0 processLimit) ∙ rw zero (row-countUp processLimit .once 0 (omega arith)) in
+    omega (arith, times-length 0 (filter (isLive t) (countUp 0 processLimit)))

@@ -52,9 +52,13 @@ queue t s = line t (waitsOn s)
 abbrev pub placeOf : Tables → ℕ → ℕ → ℕ
 placeOf t p s = placeIn p (queue t s)
 
+-- a slot that isn't free
+abbrev pub isLive : Tables → ℕ → Bool
+isLive t p = not (isFree (stateOf t p))
+
 -- the live processes, in rising number
 unfoldable pub live : Tables → List ℕ
-live t = filter (λ p. not (isFree (stateOf t p))) (countUp 0 processLimit)
+live t = filter (isLive t) (countUp 0 processLimit)
 
 -- the process that is current: a list of one, or of none between two steps of a call
 abbrev pub currents : Tables → List ℕ

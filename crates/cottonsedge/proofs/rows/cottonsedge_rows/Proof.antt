@@ -55,8 +55,8 @@ use denote.Triple.Walked.{says, Stays, stay-slice, stay-none-slice, walkOf, goes
 use denote.Exit.{yes}
 use denote.Triple.Clauses.{ensured, lasts}
 use Rattle.layout.specs.Bytes.{fromBytes, wellFormed}
-use Rattle.status.specs.Rows.{rowFrom}
-use Rattle.cottonsedge.specs.Pages.{pageOf}
+use Rattle.status.specs.Search.{rowFrom}
+use Rattle.cottonsedge.specs.Walk.{pageOf}
 use Rattle.status.specs.declared.Row.{Row}
 use Rattle.cottonsedge.specs.declared.rows.Page.{Page}
 use Rattle.lists.proofs.Filled.{filled, length-filled}
