@@ -2,29 +2,27 @@
 use Prim.Native.Nat.{_<_, _≤_, ℕ}
 use native.Mathlib.Omega.{arith}
 use mathlib.Core.Bool.{false, true}
-use mathlib.Core.List.{List, _++_, map}
+use mathlib.Core.List.{List, _++_}
 use mathlib.Core.Path.{_∙_, _≡_, ap, sym}
 use lib.IntN.{pos}
-use lib.ListN.{List·getD-map, drop, getD, length, length-map}
+use lib.ListN.{drop, getD, length}
 use borrow.Author.Tests.{le-ltb, lt-ltb}
 use Rattle.layout.specs.Bytes.{fromBytes, wellFormed}
 use Rattle.layout.specs.Stands.{Tells}
-use Rattle.lists.specs.Numbers.{listed}
 use Rattle.soundness.specs.Good.{currentByte, good}
 use Rattle.tables.specs.Readers.{live}
 use Rattle.tables.specs.declared.Tables.{Tables}
 use Rattle.rules.specs.declared.Answer.{Answer}
 use Rattle.rules.specs.declared.Answer.the-variants.{Done, Refused}
 use Rattle.status.specs.declared.Row.{Row}
-use Rattle.status.specs.Rows.{rowOf, rows}
+use Rattle.status.specs.Rows.{rows}
 use Rattle.status.specs.Search.{rowFrom}
 use Rattle.layout.proofs.Image.{stands-read}
 use Rattle.lists.proofs.Bools.{below?, split}
 use Rattle.lists.proofs.Filled.{filled, filled-is}
-use Rattle.lists.proofs.NumberLaws.{listed-all}
 use Rattle.soundness.proofs.GoodBytes.{good-formed}
-use Rattle.status.proofs.LiveLaws.{next-first, nextOf}
-use Rattle.status.proofs.Queues.{rows-long}
+use Rattle.status.proofs.LiveLaws.{nextOf}
+use Rattle.status.proofs.RowByRow.{row-next, rowAt, rows-each, rows-long}
 use Rattle.cottonsedge.specs.Fields.{packed}
 use Rattle.cottonsedge.specs.Pages.{pageAnswer, rowsAfter}
 use Rattle.cottonsedge.specs.Walk.{pageOf, written}
@@ -76,15 +74,6 @@ module _ (bs : List ℕ) (lent : ℕ) where
   pub row-asked : (i : ℕ) → i < written (pageAnswer bs lent) → wellFormed bs ≡ true
   row-asked i h = good-formed bs (row-due i h .0)
 
--- the row of the live process with i live ones before it
-abbrev pub rowAt : Tables → ℕ → Row
-rowAt t i = rowOf t (getD (live t) i 0)
-
--- the rows one by one are the rows
-each : (t : Tables) → listed 0 (length (live t)) (rowAt t) ≡ rows t
-unfolding rows
-each t = listed-all (rowOf t 0) (rowAt t) (length (live t)) (map (rowOf t) (live t)) (length-map (live t) (rowOf t)) (λ i h. sym (List·getD-map (rowOf t) (live t) i 0))
-
 -- what is written one by one is the page
 pub page-is : (bs : List ℕ) (lent : List Row) → filled (rowAt (fromBytes bs)) (written (pageAnswer bs (length lent))) lent ≡ rowsAfter bs lent
 unfolding rowsAfter
@@ -94,8 +83,8 @@ page-is bs lent =
     page-cases bs n
     (λ g. rw (answer-bad bs n g))
     (λ g l. rw (answer-few bs n g l))
-    (λ g l. rw (answer-done bs n g l) (filled-is (rowAt t) (length (live t)) lent l ∙ ap (λ (rs : List Row). rs ++ drop (length (live t)) lent) (each t) ∙ ap (λ (n : ℕ). rows t ++ drop n lent) (sym (rows-long t))))
+    (λ g l. rw (answer-done bs n g l) (filled-is (rowAt t) (length (live t)) lent l ∙ ap (λ (rs : List Row). rs ++ drop (length (live t)) lent) (rows-each t) ∙ ap (λ (n : ℕ). rows t ++ drop n lent) (sym (rows-long t))))
 
 -- from where the search begins it finds the row
 pub row-found : (bs : List ℕ) (lent i : ℕ) → i < written (pageAnswer bs lent) → rowFrom (fromBytes bs) (nextOf (fromBytes bs) i) ≡ rowAt (fromBytes bs) i
-row-found bs lent i h = ap (rowOf (fromBytes bs)) (next-first (fromBytes bs) i (row-due bs lent i h .1))
+row-found bs lent i h = row-next (fromBytes bs) i (row-due bs lent i h .1)

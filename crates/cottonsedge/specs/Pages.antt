@@ -21,6 +21,10 @@ pageAnswer bs lent =
     let many : ℕ = length (live (fromBytes bs)) in
     if good bs then (if ltb lent many then Refused 16 else Done (pos many)) else Refused 15
 
+-- as one number, with the process that is current; 255 where nobody is known to be
+abbrev pub pageNumber : List ℕ → ℕ → ℕ
+pageNumber bs lent = packed (pageAnswer bs lent) (currentByte bs)
+
 -- the rows that are left: those shown, and behind them what was lent; at a refusal all as it was lent
 abbrev pub leftBy : Answer → List Row → List Row → List Row
 leftBy (Done v) shown lent = shown ++ drop (length shown) lent
@@ -29,7 +33,7 @@ leftBy (Refused n) shown lent = lent
 unfoldable pub rowsAfter : List ℕ → List Row → List Row
 rowsAfter bs lent = leftBy (pageAnswer bs (length lent)) (rows (fromBytes bs)) lent
 
--- the answer r and the rows that are left, as the page has to have them, with the process that is current; 255 where nobody is known to be
+-- the answer r and the rows that are left, as the page has to have them: of all that is lent they are these and no others
 pub record Paged (bs : List ℕ) (lent : List Row) (r : ℕ) (after : List Row) : Type 0 where
-  pub answer : r ≡ packed (pageAnswer bs (length lent)) (currentByte bs)
+  pub answer : r ≡ pageNumber bs (length lent)
   pub rows : after ≡ rowsAfter bs lent

@@ -2,12 +2,10 @@
 use Prim.Native.Nat.{ℕ}
 use mathlib.Core.List.{List}
 use lib.IntN.{natAbs}
-use Rattle.soundness.specs.Good.{currentByte}
 use Rattle.rules.specs.declared.Answer.{Answer}
 use Rattle.rules.specs.declared.Answer.the-variants.{Done, Refused}
 use Rattle.cottonsedge.specs.declared.rows.Page.{Page}
-use Rattle.cottonsedge.specs.Fields.{packed}
-use Rattle.cottonsedge.specs.Pages.{pageAnswer}
+use Rattle.cottonsedge.specs.Pages.{pageAnswer, pageNumber}
 
 -- none at a refusal
 abbrev pub written : Answer → ℕ
@@ -15,4 +13,4 @@ written (Done v) = natAbs v
 written (Refused n) = 0
 
 abbrev pub pageOf : List ℕ → ℕ → Page
-pageOf bs lent = record { answer = packed (pageAnswer bs lent) (currentByte bs); rows = written (pageAnswer bs lent) }
+pageOf bs lent = record { answer = pageNumber bs lent; rows = written (pageAnswer bs lent) }

@@ -25,11 +25,12 @@ use Rattle.tables.specs.Limits.{processLimit}
 use Rattle.tables.specs.Readers.{live}
 use Rattle.telling.specs.Reasons.{FirstOf}
 use Rattle.cottonsedge.specs.Entries.{booted}
-use Rattle.cottonsedge.specs.Fields.{packed, refusalField, valueField}
-use Rattle.cottonsedge.specs.Pages.{leftBy, pageAnswer, rowsAfter}
+use Rattle.cottonsedge.specs.Fields.{refusalField, valueField}
+use Rattle.cottonsedge.specs.Pages.{leftBy, pageAnswer, pageNumber, rowsAfter}
 use Rattle.promises.proofs.Demand.{demand3-queue}
 use Rattle.soundness.proofs.GoodBytes.{current-small, good-sound}
-use Rattle.status.proofs.Queues.{place-shown, queue-shown, rows-long}
+use Rattle.status.proofs.Queues.{place-shown, queue-shown}
+use Rattle.status.proofs.RowByRow.{rows-long}
 use Rattle.tables.proofs.LineLaws.{live-few}
 use Rattle.tables.proofs.Sentences.{live-some}
 use Rattle.cottonsedge.proofs.FieldLaws.{packed-small, process-back, refusal-back, value-back}
@@ -45,7 +46,7 @@ page-once c d = λ i. record { answer = (c .answer ∙ sym (d .answer)) i; rows 
 
 -- what the contract allows
 abbrev exactPage : List ℕ → List Row → PageResult
-exactPage bs lent = record { answer = packed (pageAnswer bs (length lent)) (currentByte bs); rows = rowsAfter bs lent }
+exactPage bs lent = record { answer = pageNumber bs (length lent); rows = rowsAfter bs lent }
 
 -- and there is one
 pub page-met : (bs : List ℕ) (lent : List Row) → PageAllowed bs lent (exactPage bs lent)
@@ -68,10 +69,10 @@ module _ (bs : List ℕ) (lent : List Row) where
       (λ g l. rw (answer-few bs (length lent) g l) (record { sfits = omega arith }, omega arith))
       (λ g l. rw (answer-done bs (length lent) g l) (record { sfits = omega (arith, live-few (fromBytes bs)) }, omega arith))
 
-  refusal : refusalField (packed z (currentByte bs)) ≡ numberOf z
+  refusal : refusalField (pageNumber bs (length lent)) ≡ numberOf z
   refusal = refusal-back z (currentByte bs) (in-range .0) (current-small bs)
 
-  value : valueField (packed z (currentByte bs)) ≡ ofZ w32 (valueOf z)
+  value : valueField (pageNumber bs (length lent)) ≡ ofZ w32 (valueOf z)
   value = value-back z (currentByte bs) (in-range .0) (current-small bs)
 
   nothing-written : (w : Answer) → z ≡ w → numberOf w ≢ 0 → (ofZ w32 (valueOf w) ≡ 0xffffffff) × (rowsAfter bs lent ≡ lent)
@@ -87,11 +88,11 @@ module _ (bs : List ℕ) (lent : List Row) where
       (answer-done bs (length lent))
 
   -- where it isn't refused
-  module _ (h : refusalField (packed z (currentByte bs)) ≡ 0) where
-    counts : valueField (packed z (currentByte bs)) ≡ many
+  module _ (h : refusalField (pageNumber bs (length lent)) ≡ 0) where
+    counts : valueField (pageNumber bs (length lent)) ≡ many
     counts = value ∙ ap (λ (w : Answer). ofZ w32 (valueOf w)) (done (sym refusal ∙ h))
 
-    as-rows : valueField (packed z (currentByte bs)) ≡ length (rows (fromBytes bs))
+    as-rows : valueField (pageNumber bs (length lent)) ≡ length (rows (fromBytes bs))
     as-rows = counts ∙ sym (rows-long (fromBytes bs))
 
     all-rows : rowsAfter bs lent ≡ rows (fromBytes bs) ++ drop (length (rows (fromBytes bs))) lent

@@ -4,7 +4,7 @@ use native.Mathlib.Omega.{arith}
 use mathlib.Core.Path.{_∙_, _≡_, ap, refl}
 use mathlib.Core.Bool.{Bool, false, true}
 use mathlib.Core.List.{List}
-use lib.Dec.{eqb}
+use lib.Dec.{eqb, ltb}
 use lib.ListN.{getD}
 use lib.IntN.{ℤ}
 use mir.Syntax.{w32}
@@ -16,9 +16,11 @@ use Rattle.tables.specs.declared.State.the-variants.{Current, Free, Ready, Susp
 use Rattle.tables.specs.declared.Tables.{Tables}
 use Rattle.tables.specs.Limits.{processLimit, semaphoreLimit}
 use Rattle.tables.specs.Readers.{countOf, isUsed, priorityOf, process, semaphore, stateOf}
+use Rattle.tables.specs.States.{isFree}
 use Rattle.layout.specs.Offsets.{countsAt, nextProcessAt, nextSemaphoreAt, orderAt, prioritiesAt, statesAt, usedAt}
-use Rattle.layout.specs.Bytes.{byteState, countAt, processAt, semaphoreAt, stateByte, usedByte, waitingFrom}
+use Rattle.layout.specs.Bytes.{byteState, countAt, noState, processAt, semaphoreAt, stateByte, usedByte, waitingFrom}
 use Rattle.layout.specs.Stands.{Named, Stands, Tells}
+use Rattle.lists.proofs.Bools.{split}
 use Rattle.layout.proofs.Words.{word-read}
 use Rattle.layout.proofs.Regions.{count-byte, place-byte, priority-byte, state-byte, used-byte}
 
@@ -33,6 +35,17 @@ state-there Current h = refl
 state-there Ready h = refl
 state-there Suspended h = refl
 state-there (Waiting q) h = rw (lt-ltb q semaphoreLimit h) (byte-waiting (waitingFrom + q) (omega arith) ∙ ap Waiting (omega arith))
+
+-- who waits has a byte above those of the other states
+pub wait-byte : (q b : ℕ) → b < waitingFrom → eqb (stateByte (Waiting q)) b ≡ false
+wait-byte q b h = split (ltb q semaphoreLimit) (λ e. rw e (ne-eqb (waitingFrom + q) b (λ z. omega arith))) (λ e. rw e (ne-eqb noState b (λ z. omega arith)))
+
+pub free-byte : (s : State) → eqb (stateByte s) 0 ≡ isFree s
+free-byte Free = refl
+free-byte Current = refl
+free-byte Ready = refl
+free-byte Suspended = refl
+free-byte (Waiting q) = wait-byte q 0 (omega arith)
 
 used-there : (u : Bool) → eqb (usedByte u) 1 ≡ u
 used-there true = refl

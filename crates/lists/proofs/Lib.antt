@@ -9,3 +9,4 @@ pub mod Bits
 pub mod Walks
 pub mod Places
 pub mod Filled
+pub mod Searches

@@ -47,7 +47,7 @@ placeIn p (x ∷ xs) =
     let later : ℕ = suc (placeIn p xs) in
     if eqb x p then 1 else later
 
--- who stands at a place, counted from 1; nobody past the last
+-- who stands at a place, counted from 1: nobody at 0 and past the last
 abbrev pub atPlace : ℕ → List ℕ → List ℕ
 atPlace zero xs = []
 atPlace (suc k) xs = take 1 (drop k xs)

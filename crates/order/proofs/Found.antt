@@ -1,13 +1,13 @@
 -- Who is found first in the row by the byte of a state, and the lines that such a search speaks of. Assumes nothing.
 use Prim.Native.Nat.{_+_, _<_, _≤_, suc, ℕ}
 use native.Mathlib.Omega.{arith}
-use mathlib.Core.Bool.{Bool, false}
+use mathlib.Core.Bool.{Bool}
 use mathlib.Core.List.{List, [], _∷_}
 use mathlib.Core.Path.{_∙_, _≡_, ap, refl, subst, sym}
 use lib.Dec.{ltb}
 use lib.ListN.{drop, getD, length}
 use borrow.Author.Tests.{eq-eqb, lt-ltb, ne-eqb}
-use Rattle.layout.specs.Bytes.{noState, stateByte, waitingFrom}
+use Rattle.layout.specs.Bytes.{stateByte, waitingFrom}
 use Rattle.layout.specs.Offsets.{statesAt}
 use Rattle.layout.specs.Stands.{Stands, Tells}
 use Rattle.lists.specs.Lists.{filter, firstOr, placeIn}
@@ -17,7 +17,7 @@ use Rattle.tables.specs.States.{isCurrent, isReady, waitsOn}
 use Rattle.tables.specs.declared.State.{State}
 use Rattle.tables.specs.declared.State.the-variants.{Current, Free, Ready, Suspended, Waiting}
 use Rattle.tables.specs.declared.Tables.{Tables}
-use Rattle.layout.proofs.Readers.{state-stands}
+use Rattle.layout.proofs.Readers.{state-stands, wait-byte}
 use Rattle.lists.proofs.Bools.{either, split}
 use Rattle.lists.proofs.ListLaws.{filter-ext}
 use Rattle.lists.proofs.Places.{place-here, place-none, place-on}
@@ -110,9 +110,6 @@ module _ (b p : ℕ) (bs : List ℕ) where
       omega (arith, c t st, one)
 
 -- A line by the byte of the state
-
-pub wait-byte : (q b : ℕ) → b < waitingFrom → byByte b (Waiting q) ≡ false
-wait-byte q b h = split (ltb q semaphoreLimit) (λ e. rw e (ne-eqb (waitingFrom + q) b (λ z. omega arith))) (λ e. rw e (ne-eqb noState b (λ z. omega arith)))
 
 same-line : (t : Tables) (f g : State → Bool) → ((s : State) → f s ≡ g s) → line t f ≡ line t g
 unfolding line

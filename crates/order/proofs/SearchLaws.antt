@@ -1,31 +1,29 @@
 -- The search that goes round, over bytes and then over the tables that they stand for. Assumes nothing.
 use Prim.Native.Nat.{_+_, _-_, _<_, _≤_, suc, ℕ}
-use native.Mathlib.Numerals.{add-one}
 use native.Mathlib.Omega.{arith}
-use mathlib.Core.List.{List, _∷_}
+use mathlib.Core.List.{List}
 use mathlib.Core.Path.{_∙_, _≡_, ap, refl, subst, sym}
 use mathlib.Core.Bool.{Bool, false, not, true}
 use lib.ListN.{getD, length}
 use lib.Dec.{eqb}
 use borrow.Author.Tests.{eq-eqb, ne-eqb}
 use Rattle.lists.specs.Lists.{filter, firstOr}
-use Rattle.lists.specs.Numbers.{countUp, listed, roundFrom}
-use Rattle.layout.specs.Bytes.{stateByte, usedByte}
+use Rattle.lists.specs.Numbers.{countUp, roundFrom}
+use Rattle.layout.specs.Bytes.{usedByte}
 use Rattle.layout.specs.Offsets.{statesAt, usedAt}
 use Rattle.layout.specs.Stands.{Stands, Tells}
-use Rattle.layout.proofs.Readers.{state-stands, used-stands}
+use Rattle.layout.proofs.Readers.{free-byte, state-stands, used-stands}
 use Rattle.rules.specs.Calls.{freeSemaphores, freeSlots, onePast}
 use Rattle.tables.specs.Limits.{processLimit, semaphoreLimit}
 use Rattle.tables.specs.Readers.{isUsed, stateOf}
 use Rattle.tables.specs.Sound.{Sound}
 use Rattle.tables.specs.States.{isFree}
-use Rattle.tables.specs.declared.State.{State}
-use Rattle.tables.specs.declared.State.the-variants.{Current, Free, Ready, Suspended, Waiting}
 use Rattle.tables.specs.declared.Tables.{Tables}
 use Rattle.lists.proofs.NumberLaws.{listed-from, listed-length}
 use Rattle.lists.proofs.RoundLaws.{filter-at, round-again, round-below, round-first}
+use Rattle.lists.proofs.Searches.{Finds, find-end, find-here, find-on}
 use Rattle.order.specs.Search.{firstFree}
-use Rattle.order.proofs.Found.{First, first-none, first-of, nothing, something, wait-byte}
+use Rattle.order.proofs.Found.{First, first-none, first-of, nothing, something}
 
 up-below : (k n limit : ℕ) → k + n ≤ limit → (i : ℕ) → i < length (countUp k n) → getD (countUp k n) i 0 < limit
 up-below k n limit h i l =
@@ -39,30 +37,29 @@ at-limit (something rest x y) h = absurd (omega arith)
 -- Over bytes
 
 module _ (bs : List ℕ) (at limit : ℕ) where
+  abbrev free : ℕ → Bool
+  free i = eqb (getD bs (at + i) 0) 0
+
   -- from i on there is first what there is from the start
   unfoldable pub Seeks : ℕ → ℕ → Type 0
-  Seeks from i = firstFree bs at limit (countUp i (limit - i)) ≡ firstFree bs at limit (countUp from (limit - from))
+  Seeks from i = Finds free limit limit from i
 
   pub seek-start : (from : ℕ) → Seeks from from
   unfolding Seeks
   seek-start from = refl
 
   module _ (from i : ℕ) (s : Seeks from i) where
-    next : i < limit → countUp i (limit - i) ≡ i ∷ countUp (i + 1) (limit - (i + 1))
-    unfolding listed
-    next h = let e : limit - i ≡ suc (limit - (i + 1)) = omega arith in rw (e, add-one) refl
-
     pub seek-here : i < limit → getD bs (at + i) 0 ≡ 0 → i ≡ firstFree bs at limit (countUp from (limit - from))
-    unfolding Seeks filter firstOr
-    seek-here h e = sym (rw (next h, eq-eqb (getD bs (at + i) 0) 0 e) refl) ∙ s
+    unfolding Seeks
+    seek-here h e = find-here free limit limit from i s h (eq-eqb (getD bs (at + i) 0) 0 e)
 
     pub seek-on : i < limit → (getD bs (at + i) 0 ≡ 0 → ⊥) → Seeks from (i + 1)
-    unfolding Seeks filter firstOr
-    seek-on h e = sym (rw (next h, ne-eqb (getD bs (at + i) 0) 0 e) refl) ∙ s
+    unfolding Seeks
+    seek-on h e = find-on free limit limit from i s h (ne-eqb (getD bs (at + i) 0) 0 e)
 
     pub seek-end : limit ≤ i → limit ≡ firstFree bs at limit (countUp from (limit - from))
-    unfolding Seeks listed filter firstOr
-    seek-end h = let e : limit - i ≡ 0 = omega arith in sym (rw e refl) ∙ s
+    unfolding Seeks
+    seek-end h = find-end free limit limit from i s h
 
   module _ (from : ℕ) where
     pub round-here : (i : ℕ) → i ≡ firstFree bs at limit (countUp from (limit - from)) → i < limit → from < limit → i ≡ firstFree bs at limit (roundFrom limit from)
@@ -84,13 +81,6 @@ pub past-next : (limit n : ℕ) → (n + 1 ≡ limit → ⊥) → n + 1 ≡ oneP
 past-next limit n e = rw (ne-eqb (suc n) limit (λ z. e (omega arith))) (omega arith)
 
 -- Over the tables
-
-pub free-byte : (s : State) → eqb (stateByte s) 0 ≡ isFree s
-free-byte Free = refl
-free-byte Current = refl
-free-byte Ready = refl
-free-byte Suspended = refl
-free-byte (Waiting q) = wait-byte q 0 (omega arith)
 
 unused-byte : (u : Bool) → eqb (usedByte u) 0 ≡ not u
 unused-byte true = refl

@@ -1,3 +1,4 @@
 pub mod LiveLaws
 pub mod RowLaws
+pub mod RowByRow
 pub mod Queues

@@ -5,7 +5,7 @@ use mathlib.Core.Bool.{Bool, _&&_, false, not, true}
 use mathlib.Core.List.{List, [], _++_, _∷_, map}
 use mathlib.Core.Path.{_∙_, _≡_, ap, refl, sym}
 use lib.Dec.{eqb}
-use lib.ListN.{drop, drop-of-length-le, getD, length, length-map, take}
+use lib.ListN.{drop, drop-of-length-le, getD, length, take}
 use lib.Seq.{drop-cons, take-all, take-nil}
 use borrow.Author.Tests.{eq-eqb, eqb-true, ne-eqb}
 use Rattle.lists.specs.Lists.{atPlace, filter, if_then_else_, placeIn, times}
@@ -26,10 +26,6 @@ use Rattle.tables.proofs.Sentences.{few-wait}
 use Rattle.tables.proofs.States.{waits-on}
 use Rattle.status.specs.Rows.{awaitedShown, placeShown, rowOf, rows, stateNumber}
 use Rattle.status.specs.Shown.{queueShown, shownAt, shownFrom, shows}
-
-pub rows-long : (t : Tables) → length (rows t) ≡ length (live t)
-unfolding rows
-rows-long t = length-map (live t) (rowOf t)
 
 -- the rows that show a place, as processes
 shown-rows : (t : Tables) (s k : ℕ) (ps : List ℕ) → shownAt (map (rowOf t) ps) s k ≡ filter (λ p. shows s k (rowOf t p)) ps

@@ -61,7 +61,8 @@ use Rattle.status.specs.declared.Row.{Row}
 use Rattle.cottonsedge.specs.declared.rows.Page.{Page}
 use Rattle.lists.proofs.Filled.{filled, length-filled}
 use Rattle.status.proofs.LiveLaws.{next-small, nextOf}
-use Rattle.cottonsedge.proofs.PageLaws.{page-is, row-asked, row-found, rowAt, rows-within}
+use Rattle.status.proofs.RowByRow.{rowAt}
+use Rattle.cottonsedge.proofs.PageLaws.{page-is, row-asked, row-found, rows-within}
 use Rattle.status.proofs.Row as T
 use Rattle.status.proofs.Row.Laws as T′
 use Rattle.cottonsedge.proofs.rows.Page as U
@@ -82,6 +83,10 @@ use Rattle.cottonsedge.proofs.rows.cottonsedge_rows.Code.Mir as text
 
 abbrev R : RattleType
 R = T.the-row
+
+-- the bytes of a row
+abbrev row-bytes : ℕ
+row-bytes = 5
 
 abbrev stayed : Stays (page.ended .signature .params) (page.ended .kept)
 stayed = (stay-none-slice (0 ∷ []) tt (plain (λ _. u8)) yes, (stay-slice (1 ∷ []) tt (plain (λ _. R)), tt))
@@ -255,7 +260,7 @@ module _ {M : Type 1} (𝓤 : URA M) (H : Heap 𝓤) (A : Atoms 𝓤) (W : Given
           rewrite ! 6 (λ (y : Val). ‵ (fat fullShare T′.mir l₆ 0 y)) (sym (known r u is e)) refl $
           assigns ! (bin ! (load ! (from ! (stop !)) (look ! 4 refl)) (lit ! tt) (record { fits = offset-fits })) (from ! (stop !)) (init ! 7 refl (tt, record { fits = offset-fits })) $
           assigns ! (bin ! (load ! (from ! (fld ! refl (stop !))) (look-in ! 10 (sub ! 0 refl (whole !)))) (load ! (from ! (stop !)) (look ! 7 refl)) tt) (from ! (stop !)) (init ! 8 refl (tt, tt)) $
-          rewrite ! 8 (λ (p : ℕ). ‵ (fat fullShare tyPtr l₁₀ 0 (vptr b p))) (sym (place-is 5 o i)) refl $
+          rewrite ! 8 (λ (p : ℕ). ‵ (fat fullShare tyPtr l₁₀ 0 (vptr b p))) (sym (place-is row-bytes o i)) refl $
           -- element i is taken out, stored to, and put back
           move ! (3 ∷ []) $ elem-out ! R (Is R) (shows 𝓤 H A R) (LL.vals T.the-type T′.the-laws) (LL.tells T.the-type T′.the-laws) fullShare (at-list i) i (f i) b o inside (λ _.
           -- [rows[i]; what it owns; the others; what the row owns; the token; what the bytes own; _4; _8; _6; _9; _10; _1; ..]
@@ -286,10 +291,10 @@ module _ {M : Type 1} (𝓤 : URA M) (H : Heap 𝓤) (A : Atoms 𝓤) (W : Given
           known : (r : Row) (u : Val) → Is R r (u ∷ []) → r ≡ f i → u ≡ T′.lowered (f i)
           known r u is e = ap only (LL.tells T.the-type T′.the-laws r (u ∷ []) is) ∙ ap T′.lowered e
 
-          lent-fits : length xs * 5 < 2 ^ 63
+          lent-fits : length xs * row-bytes < 2 ^ 63
           lent-fits = room .1
 
-          offset-fits : i * 5 < 2 ^ 64
+          offset-fits : i * row-bytes < 2 ^ 64
           offset-fits = omega (arith, small-lent, lent-fits)
 
           next-fits : i + 1 < 2 ^ 64

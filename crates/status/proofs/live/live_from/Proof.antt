@@ -16,13 +16,13 @@ loop-holds : tie.Need-loop-holds Inv-loop μ-loop
 loop-holds c = seek-start _ _
 
 returns : tie.Need-returns Inv-loop μ-loop
-returns c = (search needs, seek-here _ _ _ (search needs) _ (c .before .is-live .ensures) (c .before .before .before .loop .inv) (c .if1 .taken))
+returns c = (search needs, seek-here _ _ _ (c .before .before .before .loop .inv) (search needs) _ (c .before .is-live .ensures) (c .if1 .taken))
 
 loop-again : tie.Need-loop-again Inv-loop μ-loop
-loop-again c = seek-on _ _ _ (search needs) _ (c .before .is-live .ensures) (c .before .before .before .loop .inv) (c .if1 .left)
+loop-again c = seek-on _ _ _ (c .before .before .before .loop .inv) (search needs) _ (c .before .is-live .ensures) (c .if1 .left)
 
 returns-2 : tie.Need-returns-2 Inv-loop μ-loop
-returns-2 c = (search needs, seek-end _ _ _ (search needs) (c .before .loop .inv))
+returns-2 c = (search needs, seek-end _ _ _ (c .before .loop .inv) (search needs))
 
 pub live-from-spec : {M : Type 1} → statement M
 live-from-spec =
