@@ -8,7 +8,8 @@ use mir.Syntax.{w32}
 use mir.ValLaws.{toZ-ofZ}
 use Rattle.layout.specs.Bytes.{fromBytes}
 use Rattle.layout.specs.Offsets.{size}
-use Rattle.promises.specs.Edges.{Each, Edge, edges, sightOf}
+use Rattle.lists.specs.Lists.{Each}
+use Rattle.promises.specs.Edges.{Edge, edges, sightOf}
 use Rattle.promises.specs.Record.{Request, after, made}
 use Rattle.rules.specs.Answers.{valueOf}
 use Rattle.tables.specs.Boot.{boot}

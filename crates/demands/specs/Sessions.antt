@@ -1,13 +1,13 @@
 -- A session: any sequence of calls on the same bytes, and the record that is made of what the firmware sees of them. The latest call comes first.
 use Prim.Native.Nat.{ℕ}
 use mathlib.Core.List.{List, [], _∷_}
+use Rattle.lists.specs.Lists.{Each}
 use Rattle.promises.specs.Record.{Request, Entry}
 use Rattle.cottonsedge.specs.Fields.{processField, unpacked}
 use Rattle.demands.specs.Demands.{Asked, Result, Allowed, Kernel}
 
 abbrev pub AllAsked : List Request → Type 0
-AllAsked [] = Unit
-AllAsked (q ∷ qs) = Asked q × AllAsked qs
+AllAsked qs = Each Asked qs
 
 -- the bytes that a kernel leaves
 unfoldable pub left : Kernel → List ℕ → List Request → List ℕ

@@ -76,10 +76,14 @@ firstOr d (x ∷ xs) = x
 abbrev pub first : List ℕ → ℕ
 first xs = firstOr 0 xs
 
+-- this is so of each entry
+abbrev pub Each : {A : Type 0} → (A → Type 0) → List A → Type 0
+Each P [] = Unit
+Each P (x ∷ xs) = P x × Each P xs
+
 -- no entry's rank is above n
 abbrev pub AtMost : (ℕ → ℕ) → ℕ → List ℕ → Type 0
-AtMost rank n [] = Unit
-AtMost rank n (x ∷ xs) = (rank x ≤ n) × AtMost rank n xs
+AtMost rank n xs = Each (λ x. rank x ≤ n) xs
 
 -- nobody behind an entry has a higher rank
 abbrev pub Falling : (ℕ → ℕ) → List ℕ → Type 0

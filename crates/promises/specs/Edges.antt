@@ -44,11 +44,6 @@ sightOf e =
       running = currentOf (o .tables);
     }
 
--- this is true of each edge
-abbrev pub Each : (Edge → Type 0) → List Edge → Type 0
-Each P [] = Unit
-Each P (e ∷ es) = P e × Each P es
-
 -- Requests
 
 abbrev pub call : ℕ → ℤ → Request

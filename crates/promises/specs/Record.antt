@@ -7,7 +7,7 @@ use lib.Dec.{eqb, ltb}
 use lib.IntN.{ℤ, sucℤ, predℤ, natAbs}
 use mir.Syntax.{w32}
 use mir.Val.{SFits}
-use Rattle.lists.specs.Lists.{if_then_else_, times}
+use Rattle.lists.specs.Lists.{Each, if_then_else_, times}
 use Rattle.tables.specs.declared.Tables.{Tables}
 use Rattle.tables.specs.Readers.{currentOf}
 use Rattle.rules.specs.declared.Answer.{Answer}
@@ -28,8 +28,7 @@ pub record ArgumentsFit (q : Request) : Type 0 where
   pub b : SFits w32 (q .b)
 
 abbrev pub AllFit : List Request → Type 0
-AllFit [] = Unit
-AllFit (q ∷ qs) = ArgumentsFit q × AllFit qs
+AllFit qs = Each ArgumentsFit qs
 
 -- a call that was made, with its caller and its answer
 pub record Entry : Type 0 where

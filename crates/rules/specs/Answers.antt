@@ -4,7 +4,7 @@ use lib.IntN.{ℤ, negsuc}
 use mathlib.Core.Bool.{Bool, false}
 use mathlib.Core.List.{List, [], _∷_}
 use mathlib.Core.Path.{_≡_}
-use Rattle.lists.specs.Lists.{if_then_else_}
+use Rattle.lists.specs.Lists.{Each, if_then_else_}
 use Rattle.tables.specs.declared.Tables.{Tables}
 use Rattle.rules.specs.declared.Answer.{Answer}
 use Rattle.rules.specs.declared.Answer.the-variants.{Done, Refused}
@@ -41,5 +41,4 @@ unless refuse [] o = o
 unless refuse (c ∷ cs) o = if c .holds then refuse (c .number) else unless refuse cs o
 
 abbrev pub NoneHolds : List Check → Type 0
-NoneHolds [] = Unit
-NoneHolds (c ∷ cs) = (c .holds ≡ false) × NoneHolds cs
+NoneHolds cs = Each (λ c. c .holds ≡ false) cs
