@@ -1,7 +1,7 @@
 -- One call keeps every account right. Assumes nothing.
 use Prim.Native.Nat.{ℕ}
 use mathlib.Core.Bool.{Bool, true, false}
-use mathlib.Core.List.{List, [], _∷_}
+use mathlib.Core.List.{List, []}
 use mathlib.Core.Option.{Option, none, some}
 use mathlib.Core.Path.{_≡_, refl, sym, ap, subst, _∙_}
 use lib.Dec.{eqb, ltb}
@@ -17,15 +17,13 @@ use Rattle.tables.specs.Sound.{Sound}
 use Rattle.tables.proofs.States.{awaits-some}
 use Rattle.tables.proofs.LineLaws.{in-line-live}
 use Rattle.tables.proofs.Sentences.{waiter-used, sentences}
-use Rattle.rules.specs.Answers.{_when_, refused}
-use Rattle.rules.specs.Calls.{Call, Wait, Signal, MakeSemaphore, Delete, Reset, MakeProcess, Resume, Suspend, Kill, Yield, Count, deed, finish, step}
-use Rattle.rules.specs.Enter.{Form, formOf, callOf, spare, called, numbered}
+use Rattle.rules.specs.Calls.{Call, Wait, Signal, MakeSemaphore, Delete, Reset, MakeProcess, Resume, Suspend, Kill, Yield, Count, deed, finish}
 use Rattle.rules.proofs.Resched.{Settled}
 use Rattle.rules.proofs.Effects.{Effect, settled-seen}
-use Rattle.rules.proofs.Refusals.{unless-cases, step-cases}
 use Rattle.rules.proofs.Changes.{changeOf, Loses, Becomes, Allowed, call-changes}
 use Rattle.rules.specs.Seen.{Seen, seen}
-use Rattle.promises.specs.Record.{Request, made, Account, stillBlocked, among, opened, killed, change, Event, Sets, Ends, Signals, Waits, Nothing, accepted, answered, entered, noted}
+use Rattle.promises.specs.Record.{Request, made, Account, stillBlocked, among, opened, killed, change, Event, Sets, Ends, Signals, Waits, Nothing, accepted, entryOf, event, noted}
+use Rattle.promises.proofs.Events.{event-cases}
 use Rattle.promises.proofs.Accounts.{Agrees, agrees-waited, agrees-signalled, agrees-killed, agrees-spared}
 
 -- the account is the one of a semaphore that is seen so
@@ -97,20 +95,6 @@ module _ {t : Tables} (S : Sound t) where
   call-agrees (Count a) t′ (k, g) = settled-agree g
 
   -- refusals keep what they find
-  step-agree : (c : Call) (r : ℕ) (old : Option Account) → Agree t r old → Agree (step t c .tables) r (noted (currentOf t) (answered r c (step t c .answer)) old)
-  step-agree c r old h =
-      step-cases t (λ o. Agree (o .tables) r (noted (currentOf t) (answered r c (o .answer)) old)) (λ n. h) c
-      (λ k. call-agrees c (finish (deed t c) .tables) (call-changes S c k) r old h)
-
-  pub numbered-agree : (q : Request) (r : ℕ) (old : Option Account) → Agree t r old → Agree (made t q .tables) r (noted (currentOf t) (entered r (formOf (q .number)) (record { caller = currentOf t; request = q; answer = made t q .answer })) old)
-  unfolding numbered
-  numbered-agree q r old h = go (formOf (q .number))
-    where
-      go : (f : Option Form)
-          → Agree (called t f (q .a) (q .b) .tables) r (noted (currentOf t) (entered r f (record { caller = currentOf t; request = q; answer = called t f (q .a) (q .b) .answer })) old)
-      go none = h
-      go (some f) =
-          unless-cases (λ m. refused m t)
-          (λ o. Agree (o .tables) r (noted (currentOf t) (answered r (callOf f (q .a) (q .b)) (o .answer)) old)) (λ m. h)
-          ((14 when spare f (q .a) (q .b)) ∷ []) (step t (callOf f (q .a) (q .b)))
-          (λ k. step-agree (callOf f (q .a) (q .b)) r old h)
+  pub numbered-agree : (q : Request) (r : ℕ) (old : Option Account) → Agree t r old → Agree (made t q .tables) r (noted (currentOf t) (event r (entryOf t q)) old)
+  numbered-agree q r old h =
+      event-cases t q r (λ t′ x. Agree t′ r (noted (currentOf t) x old)) h (λ c k. call-agrees c (finish (deed t c) .tables) (call-changes S c k) r old h)

@@ -1,5 +1,6 @@
 pub mod Accounts
 pub mod Sums
+pub mod Events
 pub mod CallAccounts
 pub mod Runs
 pub mod Demand

@@ -166,10 +166,13 @@ blocked entries s = blockedBy (account s entries)
 abbrev pub made : Tables → Request → Outcome
 made t r = numbered t (r .number) (r .a) (r .b)
 
+abbrev pub entryOf : Tables → Request → Entry
+entryOf t r = record { caller = currentOf t; request = r; answer = made t r .answer }
+
 unfoldable pub after : Tables → List Request → Tables
 after start [] = start
 after start (r ∷ earlier) = made (after start earlier) r .tables
 
 unfoldable pub recordOf : Tables → List Request → List Entry
 recordOf start [] = []
-recordOf start (r ∷ earlier) = record { caller = currentOf (after start earlier); request = r; answer = made (after start earlier) r .answer } ∷ recordOf start earlier
+recordOf start (r ∷ earlier) = entryOf (after start earlier) r ∷ recordOf start earlier
