@@ -1,6 +1,5 @@
 // Counts and arguments as signed numbers.
 ghost use mathlib.Core.Path.{_≡_};
-ghost use lib.IntN.{pos};
 ghost use lib.Signed.{leZ};
 ghost use Rattle.rules.specs.Calls.{below0, largest};
 ghost use Rattle.rules.specs.Enter.{isZero};
@@ -44,10 +43,4 @@ pub fn is_full(c: i32) -> bool
     ensures { λ r. ⌜ r ≡ leZ largest c ⌝ }
 {
     i32::MAX <= c
-}
-
-pub fn is_spent(c: i32) -> bool
-    ensures { λ r. ⌜ r ≡ leZ c (pos 0) ⌝ }
-{
-    c <= 0
 }

@@ -5,4 +5,5 @@ pub mod Asked
 pub mod Sessions
 pub mod ShutOut
 pub mod Edges
+pub mod Permits
 pub mod Pages

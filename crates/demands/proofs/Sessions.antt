@@ -112,6 +112,10 @@ module _ (k : Kernel) (d : Demand2 k) (bs : List ℕ) (l : length bs ≡ size) (
   pub told-runs : toldLast (exchanges k (booted bs) requests) ≡ currentOf (fromBytes (left k (booted bs) requests))
   told-runs = rw (left-tables, boot-bytes bs l) (steps-told k requests fits steps)
 
-  -- they are the tables of demand 3, with the record that is made of what is seen
+  -- the record that is made of what is seen is that of the rules
+  pub seen-record : recordSeen (exchanges k (booted bs) requests) ≡ recordOf boot requests
+  seen-record = rw (boot-bytes bs l) (steps-record k requests fits steps)
+
+  -- they are the tables of demand 3, with that record
   pub demand3-of-bytes : Demand3 (fromBytes (left k (booted bs) requests)) (recordSeen (exchanges k (booted bs) requests))
-  demand3-of-bytes = rw (left-tables, boot-bytes bs l, steps-record k requests fits steps) (demand3 requests)
+  demand3-of-bytes = rw (left-tables, seen-record) (demand3 requests)

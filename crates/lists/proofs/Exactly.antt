@@ -1,6 +1,6 @@
 -- Tests that hold exactly when what they test is so. Assumes nothing.
 use Prim.Native.Nat.{ℕ}
-use mathlib.Core.Bool.{Bool, _&&_, _||_, false, false≢true, not, true}
+use mathlib.Core.Bool.{Bool, _||_, false, false≢true, not, true}
 use mathlib.Core.Logic.{_⊎_, _↔_, inl, inr, ⊎-elim}
 use mathlib.Core.Path.{_≡_, refl}
 use lib.Dec.{T, eqb}
@@ -12,14 +12,9 @@ use borrow.Author.Tests.{eq-eqb, eqb-true}
 abbrev pub Tests : Bool → Type 0 → Type 0
 Tests b P = (b ≡ true) ↔ P
 
-module _ {P Q : Type 0} where
-  pub tests-or : (a b : Bool) → Tests a P → Tests b Q → Tests (a || b) (P ⊎ Q)
-  tests-or true b p q = (λ e. inl (p .0 refl), λ w. refl)
-  tests-or false b p q = (λ e. inr (q .0 e), ⊎-elim (λ w. absurd (false≢true (p .1 w))) (q .1))
-
-  pub tests-and : (a b : Bool) → Tests a P → Tests b Q → Tests (a && b) (P × Q)
-  tests-and true b p q = (λ e. (p .0 refl, q .0 e), λ w. q .1 (w .1))
-  tests-and false b p q = (λ e. absurd (false≢true e), λ w. p .1 (w .0))
+pub tests-or : {P Q : Type 0} (a b : Bool) → Tests a P → Tests b Q → Tests (a || b) (P ⊎ Q)
+tests-or true b p q = (λ e. inl (p .0 refl), λ w. refl)
+tests-or false b p q = (λ e. inr (q .0 e), ⊎-elim (λ w. absurd (false≢true (p .1 w))) (q .1))
 
 pub tests-not : {P : Type 0} (b : Bool) → Tests b P → Tests (not b) (¬ P)
 tests-not true p = (λ e. absurd (false≢true e), λ n. absurd (n (p .0 refl)))

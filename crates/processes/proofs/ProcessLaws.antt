@@ -3,7 +3,7 @@ use Prim.Native.Nat.{_<_, ℕ}
 use mathlib.Core.Bool.{false}
 use mathlib.Core.List.{List, _∷_}
 use mathlib.Core.Path.{_∙_, _≡_, ap, refl, subst, sym}
-use lib.IntN.{pos, sucℤ, ℤ}
+use lib.IntN.{natAbs, pos, sucℤ, ℤ}
 use lib.ListN.{drop, length}
 use borrow.Author.Tests.{eq-eqb, lt-leb, ne-eqb}
 use Rattle.layout.specs.Stands.{Stands, Tells, Turns}
@@ -68,8 +68,8 @@ module _ (z : ℤ) (p : ℕ) (at : indexBelow z processLimit ≡ At p) where
   below : p < processLimit
   below = number z processLimit p at .1
 
-  pub process-null : (call : Call) (bs : List ℕ) → ((t : Tables) → checks t call ≡ noProcess z ∷ nullProcess z ∷ drop 2 (checks t call)) → p ≡ 0 → Leads (λ t. step t call) bs bs (Refused 10)
-  process-null call bs e zero = checks-refuse call 10 bs (λ t. noProcess z ∷ nullProcess z ∷ drop 2 (checks t call)) e (λ t st o. rw (is, lt-leb processLimit p below, eq-eqb p 0 zero) refl)
+  pub process-null : (call : Call) (bs : List ℕ) → ((t : Tables) → checks t call ≡ noProcess z ∷ nullProcess (natAbs z) ∷ drop 2 (checks t call)) → p ≡ 0 → Leads (λ t. step t call) bs bs (Refused 10)
+  process-null call bs e zero = checks-refuse call 10 bs (λ t. noProcess z ∷ nullProcess (natAbs z) ∷ drop 2 (checks t call)) e (λ t st o. rw (is, lt-leb processLimit p below, eq-eqb p 0 zero) refl)
 
   pub resume-by : (t : Tables) (k : State) → stateOf t p ≡ k → step t (Resume z) ≡ resumed p t k
   unfolding step

@@ -4,4 +4,5 @@ pub mod Events
 pub mod CallAccounts
 pub mod Runs
 pub mod Demand
+pub mod Permits
 pub mod Edges

@@ -94,6 +94,13 @@ edges =
     ∷ refuses (threeRuns (pos 1)) 3 (call 1 (pos 120)) 1 0 (inUse (pos 1) [])
     ∷ refuses (threeRuns (pos 1)) 3 (call 1 minus1) 1 0 (inUse (pos 1) [])
     ∷ refuses (threeRuns (pos 1)) 3 (call 1 (pos 119)) 2 119 notInUse
+    -- process 0 waits, count 1: 10, and the count is still 1; count 0: 10
+    ∷ refuses (call 3 (pos 1) ∷ []) 0 (call 1 (pos 0)) 10 0 (inUse (pos 1) [])
+    ∷ refuses (call 3 (pos 0) ∷ []) 0 (call 1 (pos 0)) 10 0 (inUse (pos 0) [])
+    -- on 120 and on -1: 1, not 10; on 119, free: 2, not 10
+    ∷ refuses [] 0 (call 1 (pos 120)) 1 0 notInUse
+    ∷ refuses [] 0 (call 1 minus1) 1 0 notInUse
+    ∷ refuses [] 0 (call 1 (pos 119)) 2 119 notInUse
     -- signal at 2,147,483,646: count 2,147,483,647
     ∷ does (threeRuns (pos 2147483646)) 3 (call 2 (pos 0)) (pos 1) (inUse (pos 2147483646) []) (inUse (pos 2147483647) []) 3
     -- signal again: 5

@@ -2,7 +2,9 @@
 use Prim.Native.Nat.{ℕ}
 use mathlib.Core.Bool.{Bool, true, false, _&&_}
 use mathlib.Core.List.{List, [], _∷_, _++_}
+use mathlib.Core.Logic.{_≢_}
 use mathlib.Core.Option.{Option, none, some}
+use mathlib.Core.Path.{_≡_}
 use lib.Dec.{eqb, ltb}
 use lib.IntN.{ℤ, sucℤ, predℤ, natAbs}
 use mir.Syntax.{w32}
@@ -138,6 +140,10 @@ entered s (some f) e = answered s (callOf f (e .request .a) (e .request .b)) (e 
 
 abbrev pub event : ℕ → Entry → Event
 event s e = entered s (formOf (e .request .number)) e
+
+-- no accepted wait has caller 0
+abbrev pub NoNullWait : List Entry → Type 0
+NoNullWait entries = Each (λ e. e .caller ≡ 0 → (s : ℕ) → event s e ≢ Waits) entries
 
 -- the account after it, where p is the caller; a semaphore that isn't in use has none
 abbrev pub noted : ℕ → Event → Option Account → Option Account

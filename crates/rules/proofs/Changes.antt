@@ -106,7 +106,7 @@ module _ {t : Tables} (S : Sound t) where
 
   -- every call makes its change, and is allowed to
   pub call-changes : (c : Call) → Accepted t c → Allowed t (changeOf t c) × Becomes t (changeOf t c) (finish (deed t c) .tables)
-  call-changes (Wait a) (h, (k, (m, z))) = let u = used t (natAbs a) k in (u, still u (wait-effect S (natAbs a) u m))
+  call-changes (Wait a) (h, (k, (m, z))) = let u = used t (natAbs a) k in (u, still u (wait-effect S (natAbs a) u (not-null (currentOf t) m)))
   call-changes (Signal a) (h, (k, (m, z))) = let u = used t (natAbs a) k in ((u, m), still u (signal-effect S (natAbs a) u))
   call-changes (MakeSemaphore a) (h, (k, z)) = ((count-at-least-0 a h, λ e. absurd (true≢false e)), make-semaphore-effect S a k)
   call-changes (Delete a) (h, (k, z)) = ((refl, λ e. refl), release-effect S (natAbs a) freeSemaphore (used t (natAbs a) k))

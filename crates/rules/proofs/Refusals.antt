@@ -1,16 +1,18 @@
 -- A call is refused by the first check that holds, and then nothing changes; or no check holds, and it is done. Assumes nothing.
 use Prim.Native.Nat.{_+_, _≤_, zero, suc, ℕ}
 use native.Mathlib.Omega.{arith}
-use mathlib.Core.Bool.{Bool, _&&_, false, false≢true, not, true}
+use mathlib.Core.Bool.{Bool, _&&_, false, false≢true, not, true, true≢false}
 use mathlib.Core.List.{List, [], _∷_}
+use mathlib.Core.Logic.{_≢_}
 use mathlib.Core.Option.{Option, none, some, Option·none-ne-some, Option·some-injective}
-use mathlib.Core.Path.{_≡_, refl, subst}
+use mathlib.Core.Path.{_∙_, _≡_, refl, subst, sym}
 use lib.Dec.{eqb, leb, ltb}
 use lib.IntN.{ℤ}
-use borrow.Author.Tests.{leb-true, ltb-true}
+use borrow.Author.Tests.{eq-eqb, leb-true, ltb-true}
 use Rattle.lists.specs.Lists.{if_then_else_}
 use Rattle.lists.proofs.Bools.{both, split}
 use Rattle.tables.specs.declared.Tables.{Tables}
+use Rattle.tables.specs.Readers.{currentOf}
 use Rattle.rules.specs.declared.Answer.the-variants.{Done, Refused}
 use Rattle.rules.specs.declared.Outcome.{Outcome}
 use Rattle.rules.specs.Answers.{Check, _when_, NoneHolds, refused, unless}
@@ -49,6 +51,10 @@ step-cases t P ref c h = unless-cases (λ n. refused n t) P ref (checks t c) (fi
 
 pub step-refused : (t : Tables) (c : Call) (n : ℕ) → step t c .answer ≡ Refused n → step t c .tables ≡ t
 step-refused t c n = step-cases t (λ o. o .answer ≡ Refused n → o .tables ≡ t) (λ m e. refl) c (λ k e. absurd (finish-done (deed t c) n e))
+
+-- no wait by process 0 is accepted
+pub null-waits-none : (t : Tables) → currentOf t ≡ 0 → (c : Call) → Accepted t c → (a : ℤ) → c ≢ Wait a
+null-waits-none t z c k a e = true≢false (sym (eq-eqb (currentOf t) 0 z) ∙ subst (Accepted t) e k .1 .1 .0)
 
 -- what is true of every refusal, and of the call with this number if there is one, is true of the number
 pub numbered-cases : (t : Tables) (P : Outcome → Type 0) → ((m : ℕ) → P (refused m t)) → (n : ℕ) (a b : ℤ) → ((f : Form) → formOf n ≡ some f → P (step t (callOf f a b))) → P (numbered t n a b)

@@ -1,15 +1,13 @@
 -- Wait and signal: what they do to the semaphore that they name. Assumes nothing.
 use Prim.Native.Nat.{ℕ, zero, suc}
 use native.Mathlib.Omega.{arith}
-use mathlib.Core.Bool.{Bool, true, false, _&&_, true≢false, and-true}
+use mathlib.Core.Bool.{true, false, true≢false}
 use mathlib.Core.List.{List, [], _∷_, _++_}
 use mathlib.Core.Logic.{_≢_}
 use mathlib.Core.Path.{_≡_, refl, sym, ap, _∙_}
-use lib.Dec.{eqb}
 use lib.IntN.{ℤ, pos, negsuc, sucℤ, predℤ}
 use lib.ListN.{length, drop, length-append}
-use lib.Signed.{leZ}
-use borrow.Author.Tests.{ne-eqb, eqb-false}
+use borrow.Author.Tests.{ne-eqb}
 use Rattle.lists.specs.Lists.{if_then_else_, without, firstOr, first}
 use Rattle.lists.proofs.Bools.{split}
 use Rattle.lists.proofs.ListLaws.{without-only}
@@ -50,15 +48,6 @@ first-waiter (pos n) q b h = absurd (true≢false (sym b))
 first-waiter (negsuc n) [] b h = absurd (omega arith)
 first-waiter (negsuc n) (f ∷ fs) b h = refl
 
--- the caller blocks only where it isn't process 0
-pub blocks-not-null : (c : ℤ) (p : ℕ) → (eqb p 0 && leZ c (pos 0)) ≡ false → below0 (predℤ c) ≡ true → 0 ≢ p
-blocks-not-null c p h k e = eqb-false p 0 (go c (eqb p 0) h k) (sym e)
-  where
-    go : (c : ℤ) (b : Bool) → (b && leZ c (pos 0)) ≡ false → below0 (predℤ c) ≡ true → b ≡ false
-    go (pos zero) b h k = sym (and-true b) ∙ h
-    go (pos (suc n)) b h k = absurd (true≢false (sym k))
-    go (negsuc n) b h k = sym (and-true b) ∙ h
-
 -- Wait
 
 module _ {t : Tables} (S : Sound t) (s : ℕ) (hu : isUsed t s ≡ true) where
@@ -97,11 +86,11 @@ module _ {t : Tables} (S : Sound t) (s : ℕ) (hu : isUsed t s ≡ true) where
       (queue-makeWait (withCount t s c) p s (live-slot l p (current-below S)) (live-once l p (current-below S)) ∙ ap (λ (q : List ℕ). q ++ p ∷ []) (line-absent (withCount t s c) p (waitsOn s) (idle s) ∙ line-entry t s _ (waitsOn s)))
       (λ r h. line-kept (waiting-moved c) (waitsOn r) (ne-eqb s r (λ e. h (sym e))) (idle r) ∙ line-entry t s _ (waitsOn r))
 
-  pub wait-effect : (eqb (currentOf t) 0 && leZ (countOf t s) (pos 0)) ≡ false
+  pub wait-effect : 0 ≢ currentOf t
       → Effect t (finish (waitOn t s) .tables) s (isUsed t s) (predℤ (countOf t s)) (if below0 (predℤ (countOf t s)) then queue t s ++ currentOf t ∷ [] else queue t s)
-  wait-effect h =
+  wait-effect hz =
       let c : ℤ = predℤ (countOf t s) in
-      split (below0 c) (λ e. rw e (blocks c (blocks-not-null (countOf t s) (currentOf t) h e))) (λ e. rw e (only c))
+      split (below0 c) (λ e. rw e (blocks c hz)) (λ e. rw e (only c))
 
   -- the queue's head becomes ready
 

@@ -3,7 +3,7 @@ use Prim.Native.Nat.{ℕ, suc}
 use lib.IntN.{ℤ, pos, negsuc, sucℤ, predℤ, natAbs}
 use lib.Signed.{ltZ, leZ}
 use lib.Dec.{eqb}
-use mathlib.Core.Bool.{Bool, true, false, not, _&&_, _||_}
+use mathlib.Core.Bool.{Bool, true, false, not, _||_}
 use mathlib.Core.List.{List, [], _∷_}
 use mathlib.Core.Option.{Option, none, some}
 use Rattle.lists.specs.Lists.{if_then_else_, filter, isEmpty, first}
@@ -58,8 +58,8 @@ noProcess a = 6 when outside processLimit a
 abbrev pub notLive : Tables → ℤ → Check
 notLive t a = 7 when isFree (stateOf t (natAbs a))
 
-abbrev pub nullProcess : ℤ → Check
-nullProcess a = 10 when eqb (natAbs a) 0
+abbrev pub nullProcess : ℕ → Check
+nullProcess p = 10 when eqb p 0
 
 -- Searches
 
@@ -123,17 +123,17 @@ uncounted t (some s) = withCount t s (sucℤ (countOf t s))
 -- The two tables of the paper
 
 -- the checks of a call, in order
--- (document 001 lets process 0 block, ours refuses that with 10; its signal can wrap at the top, ours is refused with 5)
+-- (document 001 lets process 0 wait, ours refuses that with 10; its signal can wrap at the top, ours is refused with 5)
 abbrev pub checks : Tables → Call → List Check
-checks t (Wait a) = noSemaphore a ∷ notUsed t a ∷ (10 when eqb (currentOf t) 0 && leZ (countOf t (natAbs a)) (pos 0)) ∷ []
+checks t (Wait a) = noSemaphore a ∷ notUsed t a ∷ nullProcess (currentOf t) ∷ []
 checks t (Signal a) = noSemaphore a ∷ notUsed t a ∷ (5 when leZ largest (countOf t (natAbs a))) ∷ []
 checks t (MakeSemaphore a) = noCount a ∷ (4 when isEmpty (freeSemaphores t)) ∷ []
 checks t (Delete a) = noSemaphore a ∷ notUsed t a ∷ []
 checks t (Reset a b) = noCount b ∷ noSemaphore a ∷ notUsed t a ∷ []
 checks t (MakeProcess a) = (11 when ltZ a (pos 1) || ltZ (pos priorityLimit) a) ∷ (8 when isEmpty (freeSlots t)) ∷ []
 checks t (Resume a) = noProcess a ∷ notLive t a ∷ (9 when not (isSuspended (stateOf t (natAbs a)))) ∷ []
-checks t (Suspend a) = noProcess a ∷ nullProcess a ∷ notLive t a ∷ (9 when not (isReady (stateOf t (natAbs a)) || isCurrent (stateOf t (natAbs a)))) ∷ []
-checks t (Kill a) = noProcess a ∷ nullProcess a ∷ notLive t a ∷ []
+checks t (Suspend a) = noProcess a ∷ nullProcess (natAbs a) ∷ notLive t a ∷ (9 when not (isReady (stateOf t (natAbs a)) || isCurrent (stateOf t (natAbs a)))) ∷ []
+checks t (Kill a) = noProcess a ∷ nullProcess (natAbs a) ∷ notLive t a ∷ []
 checks t Yield = []
 checks t (Count a) = noSemaphore a ∷ notUsed t a ∷ []
 

@@ -1,12 +1,12 @@
 -- Wait and signal: the rule's equation in each branch, and the chain of changes. Assumes nothing.
 use Prim.Native.Nat.{_+_, _<_, ℕ}
-use mathlib.Core.Bool.{_&&_, false, true}
+use mathlib.Core.Bool.{false, true}
 use mathlib.Core.List.{List, _∷_}
 use mathlib.Core.Path.{_∙_, _≡_, ap, refl, subst, sym}
 use lib.Dec.{eqb}
 use lib.IntN.{pos, predℤ, sucℤ, ℤ}
 use lib.Signed.{leZ}
-use borrow.Author.Tests.{lt-leb}
+use borrow.Author.Tests.{eq-eqb, lt-leb, ne-eqb}
 use Rattle.layout.specs.Bytes.{waitingFrom}
 use Rattle.layout.specs.Stands.{Stands, Tells, Turns}
 use Rattle.lists.specs.Lists.{first, firstOr}
@@ -35,7 +35,7 @@ use Rattle.tables.proofs.Sentences.{current-below}
 use Rattle.tables.proofs.States.{waits-on}
 
 module _ (t : Tables) (z : ℤ) (s : ℕ) (is : z ≡ pos s) (h : s < semaphoreLimit) (u : isUsed t s ≡ true) where
-  module _ (b : (eqb (currentOf t) 0 && leZ (countOf t s) (pos 0)) ≡ false) where
+  module _ (b : eqb (currentOf t) 0 ≡ false) where
     wait-blocks : below0 (predℤ (countOf t s)) ≡ true → step t (Wait z) ≡ ended (makeWait (withCount t s (predℤ (countOf t s))) (currentOf t) s) (Switches (pos 1))
     unfolding step
     wait-blocks n = rw (is, lt-leb semaphoreLimit s h, u, b, n) refl
@@ -53,21 +53,22 @@ module _ (t : Tables) (z : ℤ) (s : ℕ) (is : z ≡ pos s) (h : s < semaphoreL
     unfolding step
     signal-goes n = rw (is, lt-leb semaphoreLimit s h, u, b, n) refl
 
+-- a wait by process 0, whatever the count
+pub wait-10 : (z : ℤ) (s : ℕ) (a : List ℕ) → Chosen z a (Used s) → (c : ℕ) → Runs c a → c ≡ 0 → Leads (λ t. step t (Wait z)) a a (Refused 10)
+unfolding step Tells
+wait-10 z s a w c runs e =
+    refuses (λ t. step t (Wait z)) 10 a (λ t st S. rw (w .0, lt-leb semaphoreLimit s (w .1), sym (w .2 t st), eq-eqb (currentOf t) 0 (sym (runs t st S) ∙ e)) refl)
+
 module _ (z : ℤ) (s : ℕ) (a : List ℕ) (w : Chosen z a (Used s)) (n : ℤ) (count : Tells (λ t. countOf t s) a n) where
   used : (t : Tables) → Stands t a → isUsed t s ≡ true
   unfolding Tells
   used t st = sym (w .2 t st)
 
-  module _ (c : ℕ) (runs : Runs c a) where
-    bars : (t : Tables) → Stands t a → Sound t → (eqb c 0 && leZ n (pos 0)) ≡ (eqb (currentOf t) 0 && leZ (countOf t s) (pos 0))
-    unfolding Tells
-    bars t st S = ap (λ (p : ℕ). eqb p 0 && leZ n (pos 0)) (runs t st S) ∙ ap (λ (m : ℤ). eqb (currentOf t) 0 && leZ m (pos 0)) (count t st)
+  module _ (c : ℕ) (runs : Runs c a) (other : c ≡ 0 → ⊥) where
+    not-null : (t : Tables) → Stands t a → Sound t → eqb (currentOf t) 0 ≡ false
+    not-null t st S = ne-eqb (currentOf t) 0 (λ e. other (runs t st S ∙ e))
 
-    pub wait-10 : (eqb c 0 && leZ n (pos 0)) ≡ true → Leads (λ t. step t (Wait z)) a a (Refused 10)
-    unfolding step
-    wait-10 e = refuses (λ t. step t (Wait z)) 10 a (λ t st S. rw (w .0, lt-leb semaphoreLimit s (w .1), used t st, sym (bars t st S) ∙ e) refl)
-
-    module _ (free : (eqb c 0 && leZ n (pos 0)) ≡ false) (m : ℤ) (less : m ≡ lower n) (b : List ℕ) (put : Turns (λ t. withCount t s m) a b) where
+    module _ (m : ℤ) (less : m ≡ lower n) (b : List ℕ) (put : Turns (λ t. withCount t s m) a b) where
       lowers : (t : Tables) → Stands t a → Sound t → m ≡ predℤ (countOf t s)
       unfolding Tells
       lowers t st S = less ∙ ap lower (count t st) ∙ lower-sound S s
@@ -79,7 +80,7 @@ module _ (z : ℤ) (s : ℕ) (a : List ℕ) (w : Chosen z a (Used s)) (n : ℤ) 
           let p = runs t st S in
           let v : Tables = withCount t s (predℤ (countOf t s)) in (
             makeWait v (currentOf t) s,
-            wait-blocks t z s (w .0) (w .1) (used t st) (sym (bars t st S) ∙ free) (ap below0 (sym q) ∙ neg),
+            wait-blocks t z s (w .0) (w .1) (used t st) (not-null t st S) (ap below0 (sym q) ∙ neg),
             subst (λ (k : ℤ). Stands (makeWait (withCount t s k) (currentOf t) s) d) q
                 (subst (λ (k : ℕ). Stands (makeWait (withCount t s m) k s) d) p (join (subst (λ (k : ℕ). k < processLimit) (sym p) (current-below S)) (withCount t s m) (put t st))),
             wait-stopped S s (record { used = isUsed t s; count = predℤ (countOf t s) }),
@@ -91,7 +92,7 @@ module _ (z : ℤ) (s : ℕ) (a : List ℕ) (w : Chosen z a (Used s)) (n : ℤ) 
           let q = lowers t st S in
           let u : Tables = withCount t s (predℤ (countOf t s)) in (
             u,
-            wait-goes t z s (w .0) (w .1) (used t st) (sym (bars t st S) ∙ free) (ap below0 (sym q) ∙ high),
+            wait-goes t z s (w .0) (w .1) (used t st) (not-null t st S) (ap below0 (sym q) ∙ high),
             subst (λ (k : ℤ). Stands (withCount t s k) b) q (put t st),
             still S u refl,
           )

@@ -2,31 +2,16 @@
 use crate::target::Target;
 use crate::target::used_semaphore;
 use arguments::counts::below_zero;
-use arguments::counts::is_spent;
 use arguments::counts::lowered;
 use layout::fields::count;
 use layout::fields::put_count;
 use scheduling::schedule::make_wait;
 use scheduling::step::Step;
 ghost use mathlib.Core.Path.{_≡_};
-ghost use mathlib.Core.Bool.{_&&_};
-ghost use lib.Dec.{eqb};
 ghost use lib.ListN.{length};
-ghost use lib.IntN.{pos};
-ghost use lib.Signed.{leZ};
 ghost use Rattle.layout.specs.Offsets.{size};
 ghost use Rattle.rules.specs.Calls.{Wait, step};
 ghost use Rattle.scheduling.specs.Steps.{Leads, Runs};
-
-// Process 0 may not block.
-fn barred(p: u8, c: i32) -> bool
-    ensures { λ r. ⌜ r ≡ (eqb p 0 && leZ c (pos 0)) ⌝ }
-{
-    if p == 0 {
-        return is_spent(c);
-    }
-    false
-}
 
 // `c` is the caller.
 pub fn wait(bytes: &mut [u8], c: u8, a: i32) -> Step
@@ -37,10 +22,10 @@ pub fn wait(bytes: &mut [u8], c: u8, a: i32) -> Step
     match target {
         Target::Refusal(n) => Step::Refused(n),
         Target::Used(s) => {
-            let n = count(bytes, s);
-            if barred(c, n) {
+            if c == 0 {
                 return Step::Refused(10);
             }
+            let n = count(bytes, s);
             let m = lowered(n);
             put_count(bytes, s, m);
             if below_zero(m) {

@@ -1,20 +1,19 @@
 -- Each refusal number is given exactly when the paper's table (specs/Reasons) says, and at no other time. Assumes nothing.
-use Prim.Native.Nat.{ℕ, suc, _≤_, _<_}
+use Prim.Native.Nat.{ℕ, _≤_, _<_}
 use native.Mathlib.Omega.{arith}
-use mathlib.Core.Bool.{Bool, true, false, not, _&&_, _||_, true≢false}
+use mathlib.Core.Bool.{Bool, true, false, not, _||_, true≢false}
 use mathlib.Core.List.{List, [], _∷_, _++_, append-nil}
 use mathlib.Core.Logic.{_≢_, _↔_, _⊎_, inl, inr, ⊎-elim}
 use mathlib.Core.Option.{Option, none, some, Option·none-ne-some}
 use mathlib.Core.Path.{_≡_, refl, sym, ap, subst, _∙_}
-use lib.Dec.{eqb}
 use lib.IntN.{ℤ, pos, negsuc, natAbs}
 use lib.Signed.{_≤ℤ_, _<ℤ_, leZ, ltZ}
 use mir.Syntax.{w32}
 use mir.Val.{SFits}
-use borrow.Author.Tests.{eqb-true, eq-eqb, leb-true, ltb-true}
+use borrow.Author.Tests.{eqb-true, leb-true, ltb-true}
 use Rattle.lists.specs.Lists.{if_then_else_, isEmpty}
 use Rattle.lists.proofs.Bools.{not-true, not-false, split, either, below?}
-use Rattle.lists.proofs.Exactly.{Tests, tests-or, tests-and, tests-not, tests-eqb, tests-ltZ, tests-leZ}
+use Rattle.lists.proofs.Exactly.{Tests, tests-or, tests-not, tests-eqb, tests-ltZ, tests-leZ}
 use Rattle.lists.proofs.RoundLaws.{none-found, found-none}
 use Rattle.tables.specs.declared.State.{State}
 use Rattle.tables.specs.declared.State.the-variants.{Free}
@@ -32,7 +31,7 @@ use Rattle.rules.specs.declared.Outcome.{Outcome}
 use Rattle.rules.specs.Answers.{Check, _when_, refused, unless}
 use Rattle.rules.specs.Calls.{Call, Wait, Signal, MakeSemaphore, Delete, Reset, MakeProcess, Resume, Suspend, Kill, Yield, Count, below0, outside, largest, noSemaphore, notUsed, noCount, noProcess, notLive, nullProcess, freeSemaphores, freeSlots, checks, deed, finish, step}
 use Rattle.rules.specs.Enter.{Form, forms, formOf, isZero, spare, callOf, called, numbered, enter}
-use Rattle.telling.specs.Reasons.{Reason, Exactly, FirstOf, noSuchSemaphore, semaphoreFree, countBelow0, allUsed, countLargest, noSuchProcess, slotFree, allLive, notSuspended, notRunnable, process0, process0Waits, noSuchPriority, noSuchCall, argumentsOf, spareArgument, notSound, ownReasons, callReasons, numberedReasons, reasons}
+use Rattle.telling.specs.Reasons.{Reason, Exactly, FirstOf, noSuchSemaphore, semaphoreFree, countBelow0, allUsed, countLargest, noSuchProcess, slotFree, allLive, notSuspended, notRunnable, process0, noSuchPriority, noSuchCall, argumentsOf, spareArgument, notSound, ownReasons, callReasons, numberedReasons, reasons}
 use Rattle.rules.proofs.Numbers.{number-known, number-past}
 use Rattle.rules.proofs.Refusals.{Ranged, finish-done, AllFrom, number-has, numbered-ranged, numbered-never-12}
 
@@ -95,12 +94,8 @@ given-9-suspend t a =
     let st = stateOf t (natAbs a) in
     (refl, tests-not (isReady st || isCurrent st) (tests-or (isReady st) (isCurrent st) (is-ready st, ap isReady) (is-current st, ap isCurrent)))
 
-pub given-10 : (a : ℤ) → Exactly (nullProcess a) (process0 a)
-given-10 (pos n) = (refl, (λ e. ap pos (eqb-true n 0 e), λ e. eq-eqb n 0 (ap natAbs e)))
-given-10 (negsuc n) = (refl, (λ e. let k : suc n ≡ 0 = eqb-true (suc n) 0 e in absurd (omega arith), λ e. eq-eqb (suc n) 0 (ap natAbs e)))
-
-pub given-10-wait : (t : Tables) (a : ℤ) → Exactly (10 when eqb (currentOf t) 0 && leZ (countOf t (natAbs a)) (pos 0)) (process0Waits t a)
-given-10-wait t a = let c = countOf t (natAbs a) in (refl, tests-and (eqb (currentOf t) 0) (leZ c (pos 0)) (tests-eqb (currentOf t) 0) (tests-leZ c (pos 0)))
+pub given-10 : (p : ℕ) → Exactly (nullProcess p) (process0 p)
+given-10 p = (refl, tests-eqb p 0)
 
 pub given-11 : (a : ℤ) → Exactly (11 when ltZ a (pos 1) || ltZ (pos priorityLimit) a) (noSuchPriority a)
 given-11 a = (refl, tests-or (ltZ a (pos 1)) (ltZ (pos priorityLimit) a) (tests-ltZ a (pos 1)) (tests-ltZ (pos priorityLimit) a))
@@ -146,15 +141,15 @@ AllExactly (c ∷ cs) [] = ⊥
 AllExactly (c ∷ cs) (r ∷ rs) = Exactly c r × AllExactly cs rs
 
 checks-given : {t : Tables} → Sound t → CountsFit t → (c : Call) → AllExactly (checks t c) (ownReasons t c)
-checks-given {t} S F (Wait a) = (given-1 a, (given-2 t a, (given-10-wait t a, tt)))
+checks-given {t} S F (Wait a) = (given-1 a, (given-2 t a, (given-10 (currentOf t), tt)))
 checks-given {t} S F (Signal a) = (given-1 a, (given-2 t a, (given-5 t a (F (natAbs a)), tt)))
 checks-given S F (MakeSemaphore a) = (given-3 a, (given-4 S, tt))
 checks-given {t} S F (Delete a) = (given-1 a, (given-2 t a, tt))
 checks-given {t} S F (Reset a b) = (given-3 b, (given-1 a, (given-2 t a, tt)))
 checks-given S F (MakeProcess a) = (given-11 a, (given-8 S, tt))
 checks-given {t} S F (Resume a) = (given-6 a, (given-7 t a, (given-9-resume t a, tt)))
-checks-given {t} S F (Suspend a) = (given-6 a, (given-10 a, (given-7 t a, (given-9-suspend t a, tt))))
-checks-given {t} S F (Kill a) = (given-6 a, (given-10 a, (given-7 t a, tt)))
+checks-given {t} S F (Suspend a) = (given-6 a, (given-10 (natAbs a), (given-7 t a, (given-9-suspend t a, tt))))
+checks-given {t} S F (Kill a) = (given-6 a, (given-10 (natAbs a), (given-7 t a, tt)))
 checks-given S F Yield = tt
 checks-given {t} S F (Count a) = (given-1 a, (given-2 t a, tt))
 

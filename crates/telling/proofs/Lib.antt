@@ -4,5 +4,6 @@ pub mod Fields
 pub mod Seats
 pub mod Rescheduling
 pub mod Others
+pub mod Counts
 pub mod Telling
 pub mod Told

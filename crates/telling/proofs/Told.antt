@@ -3,10 +3,12 @@
 use Prim.Native.Nat.{ℕ, suc}
 use mathlib.Core.Bool.{true, false, not, _||_}
 use mathlib.Core.List.{List, [], _∷_, _++_}
+use mathlib.Core.Logic.{_≢_}
 use mathlib.Core.Path.{_≡_, refl, ap, _∙_}
 use lib.Dec.{eqb}
 use lib.IntN.{ℤ, pos, sucℤ, predℤ}
 use lib.ListN.{drop}
+use lib.Signed.{_≤ℤ_}
 use Rattle.lists.specs.Lists.{if_then_else_, without, first}
 use Rattle.lists.specs.Numbers.{FirstFrom}
 use Rattle.lists.proofs.Bools.{not-false}
@@ -24,14 +26,14 @@ use Rattle.rules.specs.declared.Outcome.{Outcome}
 use Rattle.rules.specs.Answers.{done}
 use Rattle.rules.specs.Calls.{Call, Wait, Signal, MakeSemaphore, Delete, Reset, MakeProcess, Resume, Suspend, Kill, Yield, Count, below0, freeSemaphores, freeSlots, Accepted, step}
 use Rattle.rules.specs.Seen.{inUse, notInUse}
-use Rattle.telling.specs.Telling.{MakesNothing, Spares, PassesBy, seats, seated, behind, headRuns, reseat, released, Changes, Keeps}
-use Rattle.rules.proofs.WaitSignal.{blocks-not-null}
+use Rattle.telling.specs.Telling.{MakesNothing, CountGoesOn, Spares, PassesBy, seats, seated, behind, headRuns, reseat, released, Changes, Keeps}
 use Rattle.rules.proofs.Slots.{kill-prepared}
 use Rattle.rules.proofs.Found.{slot-found, semaphore-found}
-use Rattle.rules.proofs.Refusals.{step-done}
+use Rattle.rules.proofs.Refusals.{step-done, null-waits-none}
 use Rattle.rules.proofs.Changes.{not-null, used, call-changes}
 use Rattle.telling.proofs.Seats.{seats-entry, seats-cursors, seats-blocked, seats-woken, seats-resumed, seats-yielded, seats-stopped-current, seats-stopped-other, seats-released}
 use Rattle.telling.proofs.Fields.{cursors-kept, priority-stays}
+use Rattle.telling.proofs.Counts.{count-stands}
 use Rattle.telling.proofs.Others.{slot-stopped, slot-stays}
 use Rattle.telling.proofs.Telling.{tell-changes, tell-keeps, only-current, made-semaphore, made-process, slot-seats, slot-of, suspending, killing, kill-step, kill-did, kill-frees}
 
@@ -40,6 +42,16 @@ use Rattle.telling.proofs.Telling.{tell-changes, tell-keeps, only-curre
 -- no call but a make moves a cursor
 pub cursors-stay : (t : Tables) (c : Call) → MakesNothing c → (step t c .tables .«next_semaphore» ≡ t .«next_semaphore») × (step t c .tables .«next_process» ≡ t .«next_process»)
 cursors-stay = cursors-kept
+
+-- Counts
+
+-- no count falls but by a wait, a delete or a reset of its semaphore
+pub counts-stand : {t : Tables} → Sound t → (c : Call) (s : ℕ) → CountGoesOn c s → c ≢ Wait (pos s) → countOf t s ≤ℤ countOf (step t c .tables) s
+counts-stand S c s g w = count-stands S c s g (λ k. w)
+
+-- and by no wait of process 0, since none is accepted
+pub null-lowers-none : {t : Tables} → Sound t → currentOf t ≡ 0 → (c : Call) (s : ℕ) → CountGoesOn c s → countOf t s ≤ℤ countOf (step t c .tables) s
+null-lowers-none {t} S z c s g = count-stands S c s g (λ k. null-waits-none t z c k (pos s))
 
 -- Processes that a call doesn't speak of
 
@@ -59,7 +71,7 @@ module _ {t : Tables} (S : Sound t) where
       → Changes t (step t (Wait (pos s))) (pos 1) s (inUse (predℤ (countOf t s)) (queue t s ++ currentOf t ∷ [])) (headRuns (readyList t))
   wait-blocks s k h =
       tell-changes S (Wait (pos s)) (step-done t (Wait (pos s)) k ∙ rw h) refl (rw h at (call-changes S (Wait (pos s)) k .1))
-      (seats-blocked S s (used t s (k .1 .0)) (predℤ (countOf t s)) (blocks-not-null (countOf t s) (currentOf t) (k .1 .1 .0) h))
+      (seats-blocked S s (used t s (k .1 .0)) (predℤ (countOf t s)) (not-null (currentOf t) (k .1 .1 .0)))
 
   -- it isn't: no queue changes, and the caller still runs
   pub wait-passes : (s : ℕ) → Accepted t (Wait (pos s)) → below0 (predℤ (countOf t s)) ≡ false → Changes t (step t (Wait (pos s))) (pos 1) s (inUse (predℤ (countOf t s)) (queue t s)) (seats t)

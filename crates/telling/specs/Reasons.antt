@@ -78,13 +78,9 @@ notSuspended t a = 9 given stateOf t (natAbs a) ≢ Suspended
 abbrev pub notRunnable : Tables → ℤ → Reason
 notRunnable t a = 9 given ¬ ((stateOf t (natAbs a) ≡ Ready) ⊎ (stateOf t (natAbs a) ≡ Current))
 
--- 10: kill or suspend of process 0
-abbrev pub process0 : ℤ → Reason
-process0 a = 10 given a ≡ pos 0
-
--- a wait by process 0 with count 0 or less
-abbrev pub process0Waits : Tables → ℤ → Reason
-process0Waits t a = 10 given (currentOf t ≡ 0) × (countOf t (natAbs a) ≤ℤ pos 0)
+-- 10: kill or suspend of process 0; any wait by it
+abbrev pub process0 : ℕ → Reason
+process0 p = 10 given p ≡ 0
 
 -- 11: priority below 1 or above 63
 abbrev pub noSuchPriority : ℤ → Reason
@@ -110,15 +106,15 @@ notSound t = 15 given ¬ Sound t
 
 -- a call's own
 abbrev pub ownReasons : Tables → Call → List Reason
-ownReasons t (Wait a) = noSuchSemaphore a ∷ semaphoreFree t a ∷ process0Waits t a ∷ []
+ownReasons t (Wait a) = noSuchSemaphore a ∷ semaphoreFree t a ∷ process0 (currentOf t) ∷ []
 ownReasons t (Signal a) = noSuchSemaphore a ∷ semaphoreFree t a ∷ countLargest t a ∷ []
 ownReasons t (MakeSemaphore a) = countBelow0 a ∷ allUsed t ∷ []
 ownReasons t (Delete a) = noSuchSemaphore a ∷ semaphoreFree t a ∷ []
 ownReasons t (Reset a b) = countBelow0 b ∷ noSuchSemaphore a ∷ semaphoreFree t a ∷ []
 ownReasons t (MakeProcess a) = noSuchPriority a ∷ allLive t ∷ []
 ownReasons t (Resume a) = noSuchProcess a ∷ slotFree t a ∷ notSuspended t a ∷ []
-ownReasons t (Suspend a) = noSuchProcess a ∷ process0 a ∷ slotFree t a ∷ notRunnable t a ∷ []
-ownReasons t (Kill a) = noSuchProcess a ∷ process0 a ∷ slotFree t a ∷ []
+ownReasons t (Suspend a) = noSuchProcess a ∷ process0 (natAbs a) ∷ slotFree t a ∷ notRunnable t a ∷ []
+ownReasons t (Kill a) = noSuchProcess a ∷ process0 (natAbs a) ∷ slotFree t a ∷ []
 ownReasons t Yield = []
 ownReasons t (Count a) = noSuchSemaphore a ∷ semaphoreFree t a ∷ []
 

@@ -13,7 +13,7 @@ use Rattle.rules.specs.declared.Answer.the-variants.{Done}
 use Rattle.rules.specs.declared.Outcome.{Outcome}
 use Rattle.rules.specs.Seen.{Seen, seen}
 use Rattle.rules.specs.Answers.{Check, _when_, NoneHolds}
-use Rattle.rules.specs.Calls.{Call, MakeSemaphore, MakeProcess, Resume, Suspend, Kill, freeSlots}
+use Rattle.rules.specs.Calls.{Call, MakeSemaphore, Delete, Reset, MakeProcess, Resume, Suspend, Kill, freeSlots}
 
 -- n is the number of the first of these checks that holds
 pub record FirstHolds (cs : List Check) (n : ℕ) : Type 0 where
@@ -26,6 +26,11 @@ pub record FirstHolds (cs : List Check) (n : ℕ) : Type 0 where
 pub record MakesNothing (c : Call) : Type 0 where
   pub semaphore : (a : ℤ) → c ≢ MakeSemaphore a
   pub process : (a : ℤ) → c ≢ MakeProcess a
+
+-- the count of semaphore s goes on: the call neither deletes nor resets it
+pub record CountGoesOn (c : Call) (s : ℕ) : Type 0 where
+  pub undeleted : c ≢ Delete (pos s)
+  pub unreset : (b : ℤ) → c ≢ Reset (pos s) b
 
 -- the call neither makes process x nor kills it
 pub record Spares (t : Tables) (c : Call) (x : ℕ) : Type 0 where

@@ -10,37 +10,34 @@ use Rattle.semaphores.proofs.WaitSignalLaws.{wait-10, wait-block, wait-
 use Rattle.layout.proofs.Compose.{told-as}
 use Rattle.semaphores.proofs.wait.wait.Tie as tie
 
-count-requires : tie.Need-count-requires
-count-requires c κs =
-    let start = c .before .before .before .before .before .before .before in
-    (search needs, (chosen _ _ _ _ (start .fits .a) (c .before .before .target2 .given .1) (c .before .before .before .before .used-semaphore .ensures)) .1)
-
 returns : tie.Need-returns
 returns c =
-    let at-used-semaphore = c .before .before .before .before .before .before .before in
-    let w = chosen _ _ _ _ (at-used-semaphore .before .before .before .fits .a) (c .before .before .before .before .before .target2 .given .1) (at-used-semaphore .used-semaphore .ensures) in
-    let n = told-as _ _ _ _ (toZ-ofZ w32 _ (record { sfits = c .before .before .count .ok })) (c .before .before .count .ensures) in
-    λ runs. wait-10 _ _ _ w _ n _ runs (sym (c .before .barred .ensures) ∙ c .if1 .taken)
+    let used = c .before in
+    λ runs. wait-10 _ _ _ (chosen _ _ _ _ (used .before .before .before .before .before .before .fits .a) (used .before .target2 .given .1) (used .before .before .before .used-semaphore .ensures)) _ runs (c .if1 .taken)
+
+count-requires : tie.Need-count-requires
+count-requires c κs =
+    let used = c .before .before in
+    (search needs, (chosen _ _ _ _ (used .before .before .before .before .before .before .fits .a) (used .before .target2 .given .1) (used .before .before .before .used-semaphore .ensures)) .1)
 
 put-count-requires : tie.Need-put-count-requires
 put-count-requires c κs =
-    let at-target2 = c .before .before .before .before .before .before .before in
-    (search needs, (chosen _ _ _ _ (at-target2 .before .before .before .before .before .fits .a) (at-target2 .target2 .given .1) (at-target2 .before .before .used-semaphore .ensures)) .1)
+    let used = c .before .before .before .before .before in
+    (search needs, (chosen _ _ _ _ (used .before .before .before .before .before .before .fits .a) (used .before .target2 .given .1) (used .before .before .before .used-semaphore .ensures)) .1)
 
 make-wait-requires : tie.Need-make-wait-requires
 make-wait-requires c κs =
-    let at-target2 = c .before .before .before .before .before .before .before .before .before .before .before .before .before in
-    (search needs, (chosen _ _ _ _ (at-target2 .before .before .before .before .before .fits .a) (at-target2 .target2 .given .1) (at-target2 .before .before .used-semaphore .ensures)) .1)
+    let used = c .before .before .before .before .before .before .before .before .before .before .before in
+    (search needs, (chosen _ _ _ _ (used .before .before .before .before .before .before .fits .a) (used .before .target2 .given .1) (used .before .before .before .used-semaphore .ensures)) .1)
 
 returns-2 : tie.Need-returns-2
 returns-2 c =
     let at-put-count = c .before .before .before .before .before .before .before .before in
-    let at-target2 = at-put-count .before .before .before .before .before .before .before .before in
-    let w = chosen _ _ _ _ (at-target2 .before .before .before .before .before .fits .a) (at-target2 .target2 .given .1) (at-target2 .before .before .used-semaphore .ensures) in
-    let n = told-as _ _ _ _ (toZ-ofZ w32 _ (record { sfits = at-put-count .before .before .before .before .before .count .ok })) (at-put-count .before .before .before .before .before .count .ensures) in
-    let free = sym (at-put-count .before .before .before .before .barred .ensures) ∙ at-put-count .before .before .before .if1 .left in
+    let used = at-put-count .before .before .before .before .before .before in
+    let w = chosen _ _ _ _ (used .before .before .before .before .before .before .fits .a) (used .before .target2 .given .1) (used .before .before .before .used-semaphore .ensures) in
+    let n = told-as _ _ _ _ (toZ-ofZ w32 _ (record { sfits = at-put-count .before .before .before .count .ok })) (at-put-count .before .before .before .count .ensures) in
     let less = toZ-ofZ w32 _ (record { sfits = at-put-count .before .before .lowered .ok }) ∙ at-put-count .before .before .lowered .ensures in
-    λ runs. wait-block _ _ _ w _ n _ runs free _ less _ (at-put-count .put-count .ensures) _ (sym (c .before .before .before .before .before .below-zero .ensures) ∙ c .before .before .before .before .if2 .taken) (c .before .before .make-wait .ensures)
+    λ runs. wait-block _ _ _ w _ n _ runs (at-put-count .before .before .before .before .before .if1 .left) _ less _ (at-put-count .put-count .ensures) _ (sym (c .before .before .before .before .before .below-zero .ensures) ∙ c .before .before .before .before .if2 .taken) (c .before .before .make-wait .ensures)
 
 returns-3 : tie.Need-returns-3
 returns-3 c =
@@ -49,13 +46,12 @@ returns-3 c =
 
 returns-4 : tie.Need-returns-4
 returns-4 c =
-    let at-if1 = c .before .before .before .before .before .before .before in
-    let at-used-semaphore = at-if1 .before .before .before .before .before .before .before in
-    let w = chosen _ _ _ _ (at-used-semaphore .before .before .before .fits .a) (at-if1 .before .before .before .before .before .target2 .given .1) (at-used-semaphore .used-semaphore .ensures) in
-    let n = told-as _ _ _ _ (toZ-ofZ w32 _ (record { sfits = at-if1 .before .before .count .ok })) (at-if1 .before .before .count .ensures) in
-    let free = sym (at-if1 .before .barred .ensures) ∙ at-if1 .if1 .left in
-    let less = toZ-ofZ w32 _ (record { sfits = c .before .before .before .before .before .before .lowered .ok }) ∙ c .before .before .before .before .before .before .lowered .ensures in
-    λ runs. wait-go _ _ _ w _ n _ runs free _ less _ (c .before .before .before .before .put-count .ensures) (sym (c .before .below-zero .ensures) ∙ c .if2 .left)
+    let at-put-count = c .before .before .before .before in
+    let used = at-put-count .before .before .before .before .before .before in
+    let w = chosen _ _ _ _ (used .before .before .before .before .before .before .fits .a) (used .before .target2 .given .1) (used .before .before .before .used-semaphore .ensures) in
+    let n = told-as _ _ _ _ (toZ-ofZ w32 _ (record { sfits = at-put-count .before .before .before .count .ok })) (at-put-count .before .before .before .count .ensures) in
+    let less = toZ-ofZ w32 _ (record { sfits = at-put-count .before .before .lowered .ok }) ∙ at-put-count .before .before .lowered .ensures in
+    λ runs. wait-go _ _ _ w _ n _ runs (at-put-count .before .before .before .before .before .if1 .left) _ less _ (at-put-count .put-count .ensures) (sym (c .before .below-zero .ensures) ∙ c .if2 .left)
 
 pub wait-spec : {M : Type 1} → statement M
 wait-spec =
@@ -64,10 +60,9 @@ wait-spec =
     (λ c κs. search needs)
     (λ c. search needs)
     (λ c. search needs)
-    count-requires
-    (λ c κs. search needs)
     (λ c. search needs)
     returns
+    count-requires
     (λ c κs. search needs)
     put-count-requires
     (λ c κs. search needs)
