@@ -1,5 +1,6 @@
 /*
- * A small board that plays one incident. Two handlers wait for the VLAN lock, and
+ * A small board that plays one incident. The idle loop is refused the VLAN lock,
+ * free as it is, since it would never give it back. Two handlers wait for it, and
  * the first of them is killed when its browser tab closes. Its number goes to a
  * new handler, which is still suspended. Then the lock is given back: the other
  * waiter gets it and the new handler stays where it is, for no queue remembers
@@ -124,11 +125,23 @@ static void print_state(int32_t process)
            (long)call("count of the lock", COTTONSEDGE_COUNT, LOCK, 0));
 }
 
+/* The idle loop is process 0: it takes no permits. */
+static void idle_is_refused(void)
+{
+    uint64_t answer = cottonsedge_call(tables, sizeof tables, COTTONSEDGE_WAIT, LOCK, 0);
+    int32_t count = call("count of the lock", COTTONSEDGE_COUNT, LOCK, 0);
+
+    printf("idle loop: take the lock: refused with %d; the lock counts %ld\n", cottonsedge_refusal(answer), (long)count);
+    if (cottonsedge_refusal(answer) != COTTONSEDGE_NULL_PROCESS || count != 1)
+        exit(EXIT_FAILURE);
+}
+
 static void start_up(void)
 {
     if (cottonsedge_boot(tables, sizeof tables) != 0)
         exit(EXIT_FAILURE);
     step("make the VLAN lock, free", COTTONSEDGE_MAKE_SEMAPHORE, 1, 0);
+    idle_is_refused();
     step("make the semaphore of requests", COTTONSEDGE_MAKE_SEMAPHORE, 0, 0);
     step("make the server, priority 30", COTTONSEDGE_MAKE_PROCESS, 30, 0);
     step("resume the server", COTTONSEDGE_RESUME, 1, 0);

@@ -82,15 +82,15 @@ static void calls(void)
     boot();
     check("MAKE_SEMAPHORE", value(COTTONSEDGE_MAKE_SEMAPHORE, 5, 0), 0);
     check("COUNT", value(COTTONSEDGE_COUNT, 0, 0), 5);
+    check("MAKE_PROCESS", value(COTTONSEDGE_MAKE_PROCESS, 7, 0), 1);
+    check("RESUME", value(COTTONSEDGE_RESUME, 1, 0), 7);
     check("WAIT", value(COTTONSEDGE_WAIT, 0, 0), 1);
     check("WAIT lowers the count", value(COTTONSEDGE_COUNT, 0, 0), 4);
     check("SIGNAL", value(COTTONSEDGE_SIGNAL, 0, 0), 1);
     check("SIGNAL raises the count", value(COTTONSEDGE_COUNT, 0, 0), 5);
     check("RESET", value(COTTONSEDGE_RESET, 0, 9), 1);
     check("RESET sets the count", value(COTTONSEDGE_COUNT, 0, 0), 9);
-    check("MAKE_PROCESS", value(COTTONSEDGE_MAKE_PROCESS, 7, 0), 1);
     check("MAKE_PROCESS again", value(COTTONSEDGE_MAKE_PROCESS, 7, 0), 2);
-    check("RESUME", value(COTTONSEDGE_RESUME, 1, 0), 7);
     check("RESUME runs it", cottonsedge_process(call(COTTONSEDGE_RESUME, 2, 0)), 2);
     check("YIELD", cottonsedge_process(call(COTTONSEDGE_YIELD, 0, 0)), 1);
     check("SUSPEND", cottonsedge_process(call(COTTONSEDGE_SUSPEND, 1, 0)), 2);
@@ -109,6 +109,8 @@ static void refusals_of_semaphores(void)
         call(COTTONSEDGE_MAKE_SEMAPHORE, INT32_MAX, 0);
     check("SEMAPHORES_USED_UP", refusal(COTTONSEDGE_MAKE_SEMAPHORE, 0, 0), COTTONSEDGE_SEMAPHORES_USED_UP);
     check("COUNT_AT_TOP", refusal(COTTONSEDGE_SIGNAL, 0, 0), COTTONSEDGE_COUNT_AT_TOP);
+    check("NULL_PROCESS of a wait", refusal(COTTONSEDGE_WAIT, 0, 0), COTTONSEDGE_NULL_PROCESS);
+    check("process 0 takes no permits", value(COTTONSEDGE_COUNT, 0, 0), INT32_MAX);
 }
 
 static void refusals_of_processes(void)

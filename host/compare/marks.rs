@@ -1,7 +1,7 @@
 //! How deep the states were that calls were made in.
 
 use second::model::Call;
-use second::tables::{State, Tables, PROCESSES, SEMAPHORES};
+use second::tables::{Semaphore, State, Tables, PROCESSES, SEMAPHORES};
 
 #[derive(Default)]
 pub struct Marks {
@@ -15,6 +15,8 @@ pub struct Marks {
     pub kills_inside: u64,
     pub deletes_with_waiters: u64,
     pub resets_with_waiters: u64,
+    /// Waits by process 0: with permits there, with none, on a semaphore not in use.
+    pub null_waits: [u64; 3],
 }
 
 /// What the marks need to know of the tables before a call.
@@ -23,6 +25,7 @@ pub struct Before {
     next_process: usize,
     waiters: usize,
     inside: bool,
+    null_wait: Option<usize>,
 }
 
 impl Before {
@@ -32,12 +35,29 @@ impl Before {
             next_process: t.next_process,
             waiters: waiters(t, call.a),
             inside: call.call == 0x09 && inside_a_queue(t, call.a),
+            null_wait: null_wait(t, call),
         }
     }
 }
 
+fn semaphore(t: &Tables, a: i32) -> Option<&Semaphore> {
+    usize::try_from(a).ok().and_then(|s| t.semaphores.get(s))
+}
+
 fn waiters(t: &Tables, a: i32) -> usize {
-    usize::try_from(a).ok().and_then(|s| t.semaphores.get(s)).map_or(0, |s| s.queue.len())
+    semaphore(t, a).map_or(0, |s| s.queue.len())
+}
+
+/// Which of the three it is, if process 0 waits.
+fn null_wait(t: &Tables, call: Call) -> Option<usize> {
+    if call.call != 0x01 || call.b != 0 || t.current() != Some(0) {
+        return None;
+    }
+    match semaphore(t, call.a).filter(|s| s.used) {
+        Some(s) if s.count > 0 => Some(0),
+        Some(_) => Some(1),
+        None => Some(2),
+    }
 }
 
 impl Marks {
@@ -50,6 +70,9 @@ impl Marks {
         self.tops += after.semaphores.iter().any(|s| s.count == i32::MAX) as u64;
         self.semaphore_rounds += (after.next_semaphore < before.next_semaphore) as u64;
         self.slot_rounds += (after.next_process < before.next_process) as u64;
+        if let Some(found) = before.null_wait {
+            self.null_waits[found] += 1;
+        }
         let released = before.waiters > 1 && waiters(after, call.a) == 0;
         match call.call {
             0x04 => self.deletes_with_waiters += released as u64,
@@ -72,6 +95,10 @@ impl Marks {
             "kills inside a queue {}, deletes with several waiters {}, resets with several waiters {}",
             self.kills_inside, self.deletes_with_waiters, self.resets_with_waiters
         );
+        println!(
+            "waits by process 0: {} with permits there, {} with none, {} on a semaphore not in use",
+            self.null_waits[0], self.null_waits[1], self.null_waits[2]
+        );
     }
 
     pub fn deep(&self) -> bool {
@@ -80,7 +107,7 @@ impl Marks {
         let round = self.semaphore_rounds > 0 && self.slot_rounds > 0;
         let broken_up =
             self.kills_inside > 0 && self.deletes_with_waiters > 0 && self.resets_with_waiters > 0;
-        full && round && broken_up && self.tops > 0
+        full && round && broken_up && self.tops > 0 && self.null_waits.iter().all(|&n| n > 0)
     }
 }
 

@@ -39,10 +39,10 @@ static Answer wait(Tables *t, int32_t a)
     unsigned fault = semaphore_fault(t, a);
     if (fault)
         return refused(fault);
-    int32_t count = count_of(t, (unsigned)a);
     unsigned caller = current(t);
-    if (caller == 0 && count <= 0)
+    if (caller == 0)
         return refused(10);
+    int32_t count = count_of(t, (unsigned)a);
     set_count(t, (unsigned)a, count - 1);
     if (count <= 0) {
         make_wait(t, caller, (unsigned)a);

@@ -24,6 +24,8 @@ enum {
     WRITES_BEHIND,     /* a byte behind the tables is written */
     DEEP_SIGNAL,       /* a signal to 31 waiters answers 2 */
     ONE_LEVEL,         /* priority 62 is stored as 61 */
+    NULL_TAKES,        /* a wait by process 0 takes a permit that is there */
+    NULL_BEFORE_2,     /* a wait by process 0 on a free semaphore is told 10 */
     PLACES_FROM_0,     /* the page counts places from 0 */
     PLACES_BY_NUMBER,  /* the page counts places by process number */
     ONE_STATE,         /* the page shows the suspended as ready */
@@ -61,6 +63,27 @@ static int waiters_31(const Tables *t, int32_t a)
     return a >= 0 && a < S && t->count[a][0] == 256 - 31 && t->count[a][3] == 255;
 }
 
+/* Process 0 takes a permit if there is one. */
+static uint64_t take(Tables *t, int32_t a, uint64_t answer)
+{
+    if (t->count[a][0] == 0 || t->count[a][3] > 127)
+        return answer;
+    t->count[a][0]--;
+    return 1 << 8;
+}
+
+/* What a fault does to a wait that was refused. */
+static uint64_t spoil_wait(Tables *t, int32_t a, uint64_t answer)
+{
+    int refusal = cottonsedge_refusal(answer);
+
+    if (fault() == NULL_TAKES && refusal == COTTONSEDGE_NULL_PROCESS)
+        return take(t, a, answer);
+    if (fault() == NULL_BEFORE_2 && refusal == COTTONSEDGE_SEMAPHORE_FREE && cottonsedge_process(answer) == 0)
+        return answer + (UINT64_C(8) << 40);
+    return answer;
+}
+
 /* What a fault does to tables after a call that was answered. */
 static uint64_t spoil(Tables *t, uint8_t call, int32_t a, uint64_t answer, int deep)
 {
@@ -76,6 +99,8 @@ static uint64_t spoil(Tables *t, uint8_t call, int32_t a, uint64_t answer, int d
     case WRITES_BEHIND: if (done && call == COTTONSEDGE_DELETE) ((uint8_t *)t)[COTTONSEDGE_LENGTH] = 0; break;
     case DEEP_SIGNAL: if (done && deep && call == COTTONSEDGE_SIGNAL) return answer + 256; break;
     case ONE_LEVEL: if (done && call == COTTONSEDGE_MAKE_PROCESS && a == 62) t->priority[cottonsedge_value(answer)]--; break;
+    case NULL_TAKES:
+    case NULL_BEFORE_2: return call == COTTONSEDGE_WAIT ? spoil_wait(t, a, answer) : answer;
     default: break;
     }
     return answer;

@@ -227,7 +227,7 @@ static int wait(Linked *t, int32_t a)
 
     if (fault)
         return fault;
-    if (t->current == 0 && t->semaphore[a].count <= 0)
+    if (t->current == 0)
         return 10;
     if (--t->semaphore[a].count < 0) {
         make_wait(t, t->current, (uint8_t)a);

@@ -94,13 +94,14 @@ impl Kernel {
     }
 
     fn wait(&mut self, a: i32) -> Checked<i32> {
-        let s = self.used(a)?;
         let caller = self.tables.current().ok_or(10)?;
-        let count = self.tables.semaphores[s].count;
-        if caller == 0 && count <= 0 && !self.is(Wrong::NullMayWait) {
+        if caller == 0 && self.null_first(a) {
             return Err(10);
         }
-        if caller == 0 && self.is(Wrong::NullNeverWaits) {
+        let s = self.used(a)?;
+        let count = self.tables.semaphores[s].count;
+        let allowed = self.is(Wrong::NullMayWait) || count > 0 && self.is(Wrong::NullTakesPermits);
+        if caller == 0 && !allowed {
             return Err(10);
         }
         self.tables.semaphores[s].count = count.wrapping_sub(1);
@@ -109,6 +110,11 @@ impl Kernel {
             self.reschedule();
         }
         Ok(1)
+    }
+
+    /// Wrong orders of 10 and the checks before it.
+    fn null_first(&self, a: i32) -> bool {
+        self.is(Wrong::NullBeforeNumber) || self.is(Wrong::NullBeforeFree) && self.used(a) == Err(2)
     }
 
     fn signal(&mut self, a: i32) -> Checked<i32> {
