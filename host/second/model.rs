@@ -69,6 +69,7 @@ impl Model {
         let disagrees = |record: &Record| !record.agrees(self.tables());
         match &self.record {
             Some(record) if disagrees(record) => Some("demand 3: count and queue are those of the record"),
+            Some(record) if !record.null_took_none() => Some("no accepted wait has caller 0"),
             _ => sound::fault(self.tables()),
         }
     }

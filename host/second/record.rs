@@ -26,6 +26,8 @@ struct History {
 #[derive(Clone)]
 pub struct Record {
     histories: Vec<Option<History>>,
+    /// An accepted wait had process 0 for its caller.
+    null_waited: bool,
 }
 
 impl History {
@@ -57,7 +59,7 @@ impl History {
 
 impl Record {
     pub fn boot() -> Record {
-        Record { histories: vec![None; SEMAPHORES] }
+        Record { histories: vec![None; SEMAPHORES], null_waited: false }
     }
 
     pub fn add(&mut self, entry: &Entry) {
@@ -65,6 +67,7 @@ impl Record {
             Answer::Done(value) => value,
             Answer::Refused(_) => return,
         };
+        self.null_waited |= entry.call == 0x01 && entry.caller == 0;
         match entry.call {
             0x01 => self.history(entry.a).wait(entry.caller),
             0x02 => self.history(entry.a).signal(),
@@ -89,6 +92,11 @@ impl Record {
             blocked.extend(remaining.iter().zip(1..).map(waiter));
         }
         blocked
+    }
+
+    /// Process 0 took no permit.
+    pub fn null_took_none(&self) -> bool {
+        !self.null_waited
     }
 
     /// Demand 3: every semaphore's count and queue are those of the record.
