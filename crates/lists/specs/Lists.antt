@@ -1,4 +1,4 @@
--- Words on lists of numbers. Each recursive call is bound before the choice, so that a run over 32 or 120 entries computes.
+-- Words on lists, most of them of numbers. Each recursive call is bound before the choice, so that a run over 32 or 120 entries computes.
 use Prim.Native.Nat.{ℕ, zero, suc, _+_, _≤_}
 use mathlib.Core.Bool.{Bool, true, false, not, _&&_}
 use mathlib.Core.List.{List, [], _∷_}
