@@ -62,7 +62,7 @@ enum {
     COTTONSEDGE_SLOT_FREE = 7,           /* that slot is free */
     COTTONSEDGE_SLOTS_USED_UP = 8,       /* slots 1 to 31 are all live */
     COTTONSEDGE_WRONG_STATE = 9,         /* resume: not suspended; suspend: neither ready nor current */
-    COTTONSEDGE_NULL_PROCESS = 10,       /* kill or suspend of process 0, or a wait that would block it */
+    COTTONSEDGE_NULL_PROCESS = 10,       /* kill or suspend of process 0, or any wait by it */
     COTTONSEDGE_PRIORITY_RANGE = 11,     /* priority below 1 or above 63 */
     COTTONSEDGE_BAD_LINE = 12,           /* bench program only */
     COTTONSEDGE_NO_SUCH_CALL = 13,       /* call number not in 01 to 0b */
