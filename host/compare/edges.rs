@@ -1,5 +1,5 @@
 //! The session and both sides of each edge of document 01, with the answers that
-//! the document gives.
+//! the document gives, or document 02 where it changes them.
 //!
 //! A step is a call and its arguments, `= value` or `! refusal`, `@ process now
 //! current`, and `* n` to make it n times. What isn't written isn't expected.

@@ -5,26 +5,26 @@ use mathlib.Core.List.{List}
 use mathlib.Core.Path.{_∙_, _≡_, ap, sym}
 use lib.ListN.{length}
 use lib.Signed.{_≤ℤ_, ≤ℤ-refl}
+use Rattle.cottonsedge.specs.Entries.{booted, bytesAfter}
 use Rattle.layout.specs.Bytes.{fromBytes}
 use Rattle.layout.specs.Offsets.{size}
-use Rattle.lists.proofs.Bools.{split}
 use Rattle.promises.specs.Record.{NoNullWait, Request, made}
-use Rattle.promises.proofs.Permits.{no-null-wait}
-use Rattle.rules.proofs.Refusals.{numbered-cases}
-use Rattle.rules.proofs.Fits.{fits-numbered}
-use Rattle.rules.proofs.Kept.{sound-numbered}
 use Rattle.rules.specs.Enter.{callOf}
 use Rattle.soundness.specs.Good.{good}
-use Rattle.soundness.proofs.GoodBytes.{good-formed, good-sound}
-use Rattle.layout.proofs.Image.{bytes-back, stands-read}
 use Rattle.tables.specs.Boot.{boot}
 use Rattle.tables.specs.Readers.{countOf, currentOf}
 use Rattle.tables.specs.Sound.{Sound}
 use Rattle.tables.specs.declared.Tables.{Tables}
-use Rattle.telling.proofs.Told.{null-lowers-none}
-use Rattle.cottonsedge.specs.Entries.{booted, bytesAfter}
 use Rattle.cottonsedge.proofs.Calls.{back, call-bytes}
 use Rattle.cottonsedge.proofs.Entry.{refused-bytes}
+use Rattle.layout.proofs.Image.{bytes-back, stands-read}
+use Rattle.lists.proofs.Bools.{split}
+use Rattle.promises.proofs.Permits.{no-null-wait}
+use Rattle.rules.proofs.Fits.{fits-numbered}
+use Rattle.rules.proofs.Kept.{sound-numbered}
+use Rattle.rules.proofs.Refusals.{numbered-cases}
+use Rattle.soundness.proofs.GoodBytes.{good-formed, good-sound}
+use Rattle.telling.proofs.Told.{null-lowers-none}
 use Rattle.demands.specs.Demands.{Allowed, Asked, Bytes, Demand2, Kernel, Result}
 use Rattle.demands.specs.Permits.{GoesOn}
 use Rattle.demands.specs.Sessions.{AllAsked, exchanges, recordSeen}
@@ -37,10 +37,10 @@ made-lowers-none {t} S z q s g =
     (λ f e. null-lowers-none S z (callOf f (q .a) (q .b)) s (g f e))
 
 module _ (bs : List ℕ) (q : Request) (byte : Bytes bs) (k : Asked q) (z : currentOf (fromBytes bs) ≡ 0) (s : ℕ) (g : GoesOn q s) where
-  abbrev Lowers : Type 0
-  Lowers = countOf (fromBytes bs) s ≤ℤ countOf (fromBytes (bytesAfter bs (q .number) (q .a) (q .b))) s
+  abbrev LowersNone : Type 0
+  LowersNone = countOf (fromBytes bs) s ≤ℤ countOf (fromBytes (bytesAfter bs (q .number) (q .a) (q .b))) s
 
-  sound-lowers-none : good bs ≡ true → Lowers
+  sound-lowers-none : good bs ≡ true → LowersNone
   sound-lowers-none h =
       let n = q .number in
       let a = q .a in
@@ -52,7 +52,7 @@ module _ (bs : List ℕ) (q : Request) (byte : Bytes bs) (k : Asked q) (z : curr
       ap (λ (x : List ℕ). fromBytes (bytesAfter x n a b)) (sym (bytes-back bs byte wf)) ∙ ap fromBytes (call-bytes S F n a b) ∙ back (sound-numbered S n a b) (fits-numbered S F n a b (k .arguments .a) (k .arguments .b) .0) in
       rw left (made-lowers-none S z q s g)
 
-  unsound-lowers-none : good bs ≡ false → Lowers
+  unsound-lowers-none : good bs ≡ false → LowersNone
   unsound-lowers-none h = rw (← refused-bytes bs (q .number) (q .a) (q .b) h byte) (≤ℤ-refl (countOf (fromBytes bs) s))
 
 -- no call by process 0 lowers a count: of all bytes, and of every result that the contract allows

@@ -21,7 +21,7 @@ isWait Waits = true
 isWait (Kills p) = false
 isWait Nothing = false
 
--- what isn't a wait
+-- where it is of another semaphore it is nothing
 named : (b : Bool) (x : Event) → isWait x ≡ false → isWait (if b then x else Nothing) ≡ false
 named true x h = h
 named false x h = refl
