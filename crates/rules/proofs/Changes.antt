@@ -79,6 +79,10 @@ pub below-limit : (limit : ℕ) (a : ℤ) → outside limit a ≡ false → natA
 below-limit limit (pos n) h = leb-false limit n h
 below-limit limit (negsuc n) h = absurd (true≢false h)
 
+pub passed-number : (limit : ℕ) (a : ℤ) → outside limit a ≡ false → a ≡ pos (natAbs a)
+passed-number limit (pos n) h = refl
+passed-number limit (negsuc n) h = absurd (true≢false h)
+
 priority-in-range : (a : ℤ) → (ltZ a (pos 1) || ltZ (pos priorityLimit) a) ≡ false → (1 ≤ natAbs a) × (natAbs a ≤ priorityLimit)
 priority-in-range (pos n) h =
     split (ltb n 1) (λ d. absurd (true≢false (rw d at h)))

@@ -65,8 +65,8 @@ module _ (z : ℤ) (s : ℕ) (a : List ℕ) (w : Chosen z a (Used s)) (n : ℤ) 
   used t st = sym (w .2 t st)
 
   module _ (c : ℕ) (runs : Runs c a) (other : c ≡ 0 → ⊥) where
-    not-null : (t : Tables) → Stands t a → Sound t → eqb (currentOf t) 0 ≡ false
-    not-null t st S = ne-eqb (currentOf t) 0 (λ e. other (runs t st S ∙ e))
+    another-runs : (t : Tables) → Stands t a → Sound t → eqb (currentOf t) 0 ≡ false
+    another-runs t st S = ne-eqb (currentOf t) 0 (λ e. other (runs t st S ∙ e))
 
     module _ (m : ℤ) (less : m ≡ lower n) (b : List ℕ) (put : Turns (λ t. withCount t s m) a b) where
       lowers : (t : Tables) → Stands t a → Sound t → m ≡ predℤ (countOf t s)
@@ -80,7 +80,7 @@ module _ (z : ℤ) (s : ℕ) (a : List ℕ) (w : Chosen z a (Used s)) (n : ℤ) 
           let p = runs t st S in
           let v : Tables = withCount t s (predℤ (countOf t s)) in (
             makeWait v (currentOf t) s,
-            wait-blocks t z s (w .0) (w .1) (used t st) (not-null t st S) (ap below0 (sym q) ∙ neg),
+            wait-blocks t z s (w .0) (w .1) (used t st) (another-runs t st S) (ap below0 (sym q) ∙ neg),
             subst (λ (k : ℤ). Stands (makeWait (withCount t s k) (currentOf t) s) d) q
                 (subst (λ (k : ℕ). Stands (makeWait (withCount t s m) k s) d) p (join (subst (λ (k : ℕ). k < processLimit) (sym p) (current-below S)) (withCount t s m) (put t st))),
             wait-stopped S s (record { used = isUsed t s; count = predℤ (countOf t s) }),
@@ -92,7 +92,7 @@ module _ (z : ℤ) (s : ℕ) (a : List ℕ) (w : Chosen z a (Used s)) (n : ℤ) 
           let q = lowers t st S in
           let u : Tables = withCount t s (predℤ (countOf t s)) in (
             u,
-            wait-goes t z s (w .0) (w .1) (used t st) (not-null t st S) (ap below0 (sym q) ∙ high),
+            wait-goes t z s (w .0) (w .1) (used t st) (another-runs t st S) (ap below0 (sym q) ∙ high),
             subst (λ (k : ℤ). Stands (withCount t s k) b) q (put t st),
             still S u refl,
           )

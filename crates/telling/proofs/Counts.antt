@@ -19,7 +19,7 @@ use Rattle.tables.specs.Sound.{Sound}
 use Rattle.tables.specs.States.{awaits}
 use Rattle.rules.specs.Calls.{Accepted, Call, Wait, Signal, MakeSemaphore, Delete, Reset, MakeProcess, Resume, Suspend, Kill, Yield, Count, below0, deed, finish, freeSemaphores, outside, step}
 use Rattle.rules.specs.Seen.{Seen}
-use Rattle.rules.proofs.Changes.{Loses, call-changes}
+use Rattle.rules.proofs.Changes.{Loses, call-changes, passed-number}
 use Rattle.rules.proofs.Effects.{Effect, settled-seen}
 use Rattle.rules.proofs.Found.{semaphore-found}
 use Rattle.rules.proofs.Refusals.{step-cases}
@@ -35,14 +35,9 @@ at-least-0 : (c : ℤ) → below0 c ≡ false → pos 0 ≤ℤ c
 at-least-0 (pos n) h = tests-leZ (pos 0) (pos n) .0 (le-leb 0 n (omega arith))
 at-least-0 (negsuc n) h = absurd (true≢false h)
 
--- an argument that passed is a number
-a-number : (limit : ℕ) (a : ℤ) → outside limit a ≡ false → a ≡ pos (natAbs a)
-a-number limit (pos n) h = refl
-a-number limit (negsuc n) h = absurd (true≢false h)
-
 -- a call that names semaphore s is the call on s
 names : (call : ℤ → Call) (a : ℤ) (s : ℕ) → outside semaphoreLimit a ≡ false → s ≡ natAbs a → call a ≡ call (pos s)
-names call a s h e = ap call (a-number semaphoreLimit a h) ∙ ap (λ (n : ℕ). call (pos n)) (sym e)
+names call a s h e = ap call (passed-number semaphoreLimit a h) ∙ ap (λ (n : ℕ). call (pos n)) (sym e)
 
 module _ (t : Tables) where
   settled-stands : {t′ : Tables} → Settled t t′ → (s : ℕ) → countOf t s ≤ℤ countOf t′ s
@@ -77,5 +72,5 @@ module _ {t : Tables} (S : Sound t) where
   done-stands Yield s g w k = settled-stands t (call-changes S Yield k .1) s
   done-stands (Count a) s g w k = settled-stands t (call-changes S (Count a) k .1) s
 
-  pub count-stands : (c : Call) (s : ℕ) → CountGoesOn c s → (Accepted t c → c ≢ Wait (pos s)) → countOf t s ≤ℤ countOf (step t c .tables) s
-  count-stands c s g w = step-cases t (λ o. countOf t s ≤ℤ countOf (o .tables) s) (λ n. ≤ℤ-refl (countOf t s)) c (λ k. done-stands c s g (w k) k)
+  pub step-stands : (c : Call) (s : ℕ) → CountGoesOn c s → (Accepted t c → c ≢ Wait (pos s)) → countOf t s ≤ℤ countOf (step t c .tables) s
+  step-stands c s g w = step-cases t (λ o. countOf t s ≤ℤ countOf (o .tables) s) (λ n. ≤ℤ-refl (countOf t s)) c (λ k. done-stands c s g (w k) k)

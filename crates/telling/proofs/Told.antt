@@ -33,7 +33,7 @@ use Rattle.rules.proofs.Refusals.{step-done, null-waits-none}
 use Rattle.rules.proofs.Changes.{not-null, used, call-changes}
 use Rattle.telling.proofs.Seats.{seats-entry, seats-cursors, seats-blocked, seats-woken, seats-resumed, seats-yielded, seats-stopped-current, seats-stopped-other, seats-released}
 use Rattle.telling.proofs.Fields.{cursors-kept, priority-stays}
-use Rattle.telling.proofs.Counts.{count-stands}
+use Rattle.telling.proofs.Counts.{step-stands}
 use Rattle.telling.proofs.Others.{slot-stopped, slot-stays}
 use Rattle.telling.proofs.Telling.{tell-changes, tell-keeps, only-current, made-semaphore, made-process, slot-seats, slot-of, suspending, killing, kill-step, kill-did, kill-frees}
 
@@ -47,11 +47,11 @@ cursors-stay = cursors-kept
 
 -- no count falls but by a wait, a delete or a reset of its semaphore
 pub counts-stand : {t : Tables} → Sound t → (c : Call) (s : ℕ) → CountGoesOn c s → c ≢ Wait (pos s) → countOf t s ≤ℤ countOf (step t c .tables) s
-counts-stand S c s g w = count-stands S c s g (λ k. w)
+counts-stand S c s g w = step-stands S c s g (λ k. w)
 
 -- and by no wait of process 0, since none is accepted
 pub null-lowers-none : {t : Tables} → Sound t → currentOf t ≡ 0 → (c : Call) (s : ℕ) → CountGoesOn c s → countOf t s ≤ℤ countOf (step t c .tables) s
-null-lowers-none {t} S z c s g = count-stands S c s g (λ k. null-waits-none t z c k (pos s))
+null-lowers-none {t} S z c s g = step-stands S c s g (λ k. null-waits-none t z c k (pos s))
 
 -- Processes that a call doesn't speak of
 
