@@ -17,30 +17,21 @@ in-use : (c : tie.After-known-told2) → Chosen (c .before .before .before .befo
 in-use c = chosen _ _ _ _ (c .before .before .before .before .before .before .fits .a) (c .before .target2 .given .1) (c .before .before .before .used-semaphore .ensures)
 
 returns : tie.Need-returns
-returns c =
-    let used = c .before in
-    λ runs. wait-10 _ _ _ (in-use used) _ runs (c .if1 .taken)
+returns c = λ runs. wait-10 _ _ _ (in-use (c .before)) _ runs (c .if1 .taken)
 
 count-requires : tie.Need-count-requires
-count-requires c κs =
-    let used = c .before .before in
-    (search needs, (in-use used) .1)
+count-requires c κs = (search needs, in-use (c .before .before) .1)
 
 put-count-requires : tie.Need-put-count-requires
-put-count-requires c κs =
-    let used = c .before .before .before .before .before in
-    (search needs, (in-use used) .1)
+put-count-requires c κs = (search needs, in-use (c .before .before .before .before .before) .1)
 
 make-wait-requires : tie.Need-make-wait-requires
-make-wait-requires c κs =
-    let used = c .before .before .before .before .before .before .before .before .before .before .before in
-    (search needs, (in-use used) .1)
+make-wait-requires c κs = (search needs, in-use (c .before .before .before .before .before .before .before .before .before .before .before) .1)
 
 returns-2 : tie.Need-returns-2
 returns-2 c =
     let at-put-count = c .before .before .before .before .before .before .before .before in
-    let used = at-put-count .before .before .before .before .before .before in
-    let w = in-use used in
+    let w = in-use (at-put-count .before .before .before .before .before .before) in
     let n = told-as _ _ _ _ (toZ-ofZ w32 _ (record { sfits = at-put-count .before .before .before .count .ok })) (at-put-count .before .before .before .count .ensures) in
     let less = toZ-ofZ w32 _ (record { sfits = at-put-count .before .before .lowered .ok }) ∙ at-put-count .before .before .lowered .ensures in
     λ runs. wait-block _ _ _ w _ n _ runs (at-put-count .before .before .before .before .before .if1 .left) _ less _ (at-put-count .put-count .ensures) _ (sym (c .before .before .before .before .before .below-zero .ensures) ∙ c .before .before .before .before .if2 .taken) (c .before .before .make-wait .ensures)
@@ -53,8 +44,7 @@ returns-3 c =
 returns-4 : tie.Need-returns-4
 returns-4 c =
     let at-put-count = c .before .before .before .before in
-    let used = at-put-count .before .before .before .before .before .before in
-    let w = in-use used in
+    let w = in-use (at-put-count .before .before .before .before .before .before) in
     let n = told-as _ _ _ _ (toZ-ofZ w32 _ (record { sfits = at-put-count .before .before .before .count .ok })) (at-put-count .before .before .before .count .ensures) in
     let less = toZ-ofZ w32 _ (record { sfits = at-put-count .before .before .lowered .ok }) ∙ at-put-count .before .before .lowered .ensures in
     λ runs. wait-go _ _ _ w _ n _ runs (at-put-count .before .before .before .before .before .if1 .left) _ less _ (at-put-count .put-count .ensures) (sym (c .before .below-zero .ensures) ∙ c .if2 .left)
