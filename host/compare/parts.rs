@@ -69,9 +69,9 @@ impl Run<'_> {
 
     fn wrong(&mut self) {
         let inputs = self.inputs();
-        for number in 1..KERNELS.len() {
-            let name = format!("wrong kernel {}, {}", number, KERNELS[number].1);
-            self.report.check(&name, caught(number, &inputs));
+        for &(wrong, text) in &KERNELS[1..] {
+            let name = format!("wrong kernel {:?}, {}", wrong, text);
+            self.report.check(&name, caught(wrong, &inputs));
         }
     }
 

@@ -4,11 +4,10 @@ use crate::inputs::Input;
 use crate::steps::text;
 use second::line;
 use second::model::{Call, Model};
-use second::wrong::{Wrong, KERNELS};
+use second::wrong::Wrong;
 
 /// Which inputs catch a wrong kernel: by the bench's answers, else by the tables.
-pub fn caught(number: usize, inputs: &[Input]) -> Result<String, String> {
-    let wrong = KERNELS[number].0;
+pub fn caught(wrong: Wrong, inputs: &[Input]) -> Result<String, String> {
     let by_answers: Vec<&Input> = inputs.iter().filter(|input| answers_differ(wrong, input)).collect();
     if let Some(first) = by_answers.first() {
         let told = format!(

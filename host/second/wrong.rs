@@ -1,11 +1,11 @@
-//! Wrong kernels: each is the right one with one error. Number 0 is the right one.
+//! Wrong kernels: each is the right one with one error. The first is the right one.
 
 macro_rules! wrongs {
     ($($name:ident $text:literal)*) => {
         #[derive(Clone, Copy, PartialEq, Eq, Debug)]
         pub enum Wrong { $($name),* }
 
-        /// Every kernel with what is wrong in it; a place in this list is its number.
+        /// Every kernel with what is wrong in it.
         pub const KERNELS: &[(Wrong, &str)] = &[$((Wrong::$name, $text)),*];
     };
 }
@@ -67,6 +67,7 @@ wrongs! {
     NulEnds "bench: a NUL ends the line's text"
 }
 
-pub fn kernel(number: usize) -> Wrong {
-    KERNELS[number].0
+/// The kernel of a name.
+pub fn kernel(name: &str) -> Option<Wrong> {
+    KERNELS.iter().map(|&(wrong, _)| wrong).find(|wrong| format!("{:?}", wrong) == name)
 }
