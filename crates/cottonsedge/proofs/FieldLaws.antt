@@ -1,15 +1,15 @@
 -- Each field of an answer reads back as it was put in, and so does the answer. Assumes nothing.
 use Prim.Native.Nat.{_<_, ℕ}
 use native.Mathlib.Omega.{arith}
-use mathlib.Core.Path.{_≡_, ap}
+use mathlib.Core.Bool.{true, true≢false}
+use mathlib.Core.Path.{_≡_, ap, subst, sym}
 use mir.Syntax.{w32}
 use mir.Val.{SFits, ofZ}
 use mir.ValLaws.{ofZ-fits, toZ-ofZ}
 use borrow.Author.Tests.{ne-eqb}
-use Rattle.rules.specs.Answers.{numberOf, valueOf}
+use Rattle.rules.specs.Answers.{Ranged, mayRefuse, numberOf, valueOf}
 use Rattle.rules.specs.declared.Answer.{Answer}
 use Rattle.rules.specs.declared.Answer.the-variants.{Done, Refused}
-use Rattle.rules.proofs.Refusals.{Ranged}
 use Rattle.cottonsedge.specs.Fields.{answerEnd, joined, packed, processField, refusalField, unpacked, valueEnd, valueField, valueStep}
 
 -- Three fields
@@ -44,4 +44,4 @@ module _ (r : Answer) (p : ℕ) (f : SFits w32 (valueOf r)) (h : p < valueStep) 
 
 pub packed-back : (r : Answer) (p : ℕ) → SFits w32 (valueOf r) → p < valueStep → Ranged r → unpacked (packed r p) ≡ r
 packed-back (Done v) p f h k = rw (refusal-back (Done v) p f h, value-back (Done v) p f h) (ap Done (toZ-ofZ w32 v f))
-packed-back (Refused n) p f h k = rw (refusal-back (Refused n) p f h, ne-eqb n 0 (omega arith))
+packed-back (Refused n) p f h k = rw (refusal-back (Refused n) p f h, ne-eqb n 0 (λ z. true≢false (sym (subst (λ (m : ℕ). mayRefuse m ≡ true) z k))))

@@ -9,7 +9,7 @@ use mir.Syntax.{w32}
 use mir.Val.{ofZ}
 use Rattle.layout.specs.Bytes.{toBytes}
 use Rattle.promises.specs.Record.{Request, made}
-use Rattle.rules.specs.Answers.{numberOf, valueOf}
+use Rattle.rules.specs.Answers.{Ranged, numberOf, valueOf}
 use Rattle.rules.specs.declared.Answer.{Answer}
 use Rattle.rules.specs.declared.Answer.the-variants.{Done, Refused}
 use Rattle.soundness.specs.Good.{good}
@@ -21,7 +21,7 @@ use Rattle.cottonsedge.specs.Entries.{answerOf, bytesAfter}
 use Rattle.cottonsedge.specs.Fields.{refusalField}
 use Rattle.layout.proofs.Image.{bytes-back, stands-read}
 use Rattle.lists.proofs.Bools.{split}
-use Rattle.rules.proofs.Refusals.{Ranged, numbered-never-12, numbered-ranged, numbered-refused}
+use Rattle.rules.proofs.Refusals.{numbered-ranged, numbered-refused, ranged-last, ranged-not}
 use Rattle.soundness.proofs.GoodBytes.{good-formed, good-sound}
 use Rattle.cottonsedge.proofs.Calls.{call-bytes, call-packed, call-process, call-refusal, call-runs, call-value, value-fits}
 use Rattle.cottonsedge.proofs.Entry.{refused-answer, refused-bytes}
@@ -33,18 +33,14 @@ use Rattle.demands.specs.Demands.{Allowed, Asked, Bytes, Demand1, Result
 abbrev pub exact : List ℕ → Request → Result
 exact bs q = record { answer = answerOf bs (q .number) (q .a) (q .b); bytes = bytesAfter bs (q .number) (q .a) (q .b) }
 
-ranged-small : (r : Answer) → Ranged r → numberOf r < 15
-ranged-small (Done v) h = omega arith
-ranged-small (Refused n) h = omega arith
-
 -- Sound tables
 
 module _ {t : Tables} (S : Sound t) (F : CountsFit t) (q : Request) (k : Asked q) where
   abbrev r : Answer
   r = made t q .answer
 
-  small-number : numberOf r < 15
-  small-number = ranged-small r (numbered-ranged t (q .number) (q .a) (q .b))
+  ranged : Ranged r
+  ranged = numbered-ranged t (q .number) (q .a) (q .b)
 
   refusal : refusalField (exact (toBytes t) q .answer) ≡ numberOf r
   refusal = call-refusal S F (q .number) (q .a) (q .b) (k .arguments .a) (k .arguments .b)
@@ -52,10 +48,6 @@ module _ {t : Tables} (S : Sound t) (F : CountsFit t) (q : Request) (k : Asked q
   nothing-done : (x : Answer) → r ≡ x → numberOf x ≢ 0 → (ofZ w32 (valueOf x) ≡ 0xffffffff) × (made t q .tables ≡ t)
   nothing-done (Done v) e h = absurd (h refl)
   nothing-done (Refused m) e h = (refl, numbered-refused t (q .number) (q .a) (q .b) m e)
-
-  not-12 : (x : Answer) → r ≡ x → numberOf x ≢ 12
-  not-12 (Done v) e h = omega arith
-  not-12 (Refused m) e h = numbered-never-12 t (q .number) (q .a) (q .b) (e ∙ ap Refused h)
 
   sound-demand1 : Demand1 (toBytes t) (exact (toBytes t) q)
   sound-demand1 =
@@ -66,12 +58,12 @@ module _ {t : Tables} (S : Sound t) (F : CountsFit t) (q : Request) (k : Asked q
       let fb = k .arguments .b in
       let g = sound-good S F in
       record {
-        small = rw (call-packed S F n a b) (packed-small r (currentOf (made t q .tables)) (value-fits S F n a b fa fb) (omega (arith, call-runs S F n a b)) (omega (arith, small-number)));
+        small = rw (call-packed S F n a b) (packed-small r (currentOf (made t q .tables)) (value-fits S F n a b fa fb) (omega (arith, call-runs S F n a b)) (omega (arith, ranged-last r ranged)));
         refused = rw (refusal, call-value S F n a b fa fb, call-bytes S F n a b) (λ h. let w = nothing-done r refl h in (w .0, ap toBytes (w .1)));
         done = λ h. g;
         unsound = λ h. absurd (true≢false (sym g ∙ h));
-        sound = λ h. rw (refusal, call-process S F n a b fa fb) ((λ e. omega (arith, small-number, e)), call-runs S F n a b);
-        never12 = rw refusal (not-12 r refl);
+        sound = λ h. rw (refusal, call-process S F n a b fa fb) (λ e. omega (arith, ranged-not r ranged 15 refl e), call-runs S F n a b);
+        never12 = rw refusal (λ e. omega (arith, ranged-not r ranged 12 refl e));
       }
 
 -- Others

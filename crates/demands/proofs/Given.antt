@@ -26,6 +26,17 @@ number-refused : (r : Answer) (n : ℕ) → n ≢ 0 → (numberOf r ≡ n) ↔ (
 number-refused (Done v) n h = (λ e. absurd (h (sym e)), λ e. ap numberOf e)
 number-refused (Refused m) n h = (ap Refused, ap numberOf)
 
+-- the refusal of a call on sound tables is that of the rules
+pub sound-refusal : (bs : List ℕ) (q : Request) → Bytes bs → Asked q → good bs ≡ true → refusalField (answerOf bs (q .number) (q .a) (q .b)) ≡ numberOf (made (fromBytes bs) q .answer)
+sound-refusal bs q byte k g =
+    let wf = good-formed bs g in
+    subst (λ (x : List ℕ). refusalField (answerOf x (q .number) (q .a) (q .b)) ≡ numberOf (made (fromBytes bs) q .answer)) (bytes-back bs byte wf)
+    (call-refusal (good-sound bs g) (stands-read bs byte wf .held .fits) (q .number) (q .a) (q .b) (k .arguments .a) (k .arguments .b))
+
+-- of others 15
+pub unsound-refusal : (bs : List ℕ) (q : Request) → good bs ≡ false → refusalField (answerOf bs (q .number) (q .a) (q .b)) ≡ 15
+unsound-refusal bs q g = ap refusalField (sym (refused-answer bs (q .number) (q .a) (q .b) g))
+
 module _ (bs : List ℕ) (q : Request) (byte : Bytes bs) (k : Asked q) (n : ℕ) (h : n ≢ 0) where
   abbrev answer : ℕ
   answer = answerOf bs (q .number) (q .a) (q .b)
@@ -36,20 +47,15 @@ module _ (bs : List ℕ) (q : Request) (byte : Bytes bs) (k : Asked q) (n : ℕ)
   -- sound tables: by the reasons of the rules
   sound-given : good bs ≡ true → Given
   sound-given g =
-      let r : Answer = made (fromBytes bs) q .answer in
-      let wf = good-formed bs g in
-      let S = good-sound bs g in
-      let F = stands-read bs byte wf .held .fits in
-      let e : refusalField answer ≡ numberOf r =
-      subst (λ (x : List ℕ). refusalField (answerOf x (q .number) (q .a) (q .b)) ≡ numberOf r) (bytes-back bs byte wf) (call-refusal S F (q .number) (q .a) (q .b) (k .arguments .a) (k .arguments .b)) in
-      let rules = numbered-exactly S F (q .number) (q .a) (q .b) n in
-      let refused = number-refused r n h in
+      let e = sound-refusal bs q byte k g in
+      let rules = numbered-exactly (good-sound bs g) (stands-read bs byte (good-formed bs g) .held .fits) (q .number) (q .a) (q .b) n in
+      let refused = number-refused (made (fromBytes bs) q .answer) n h in
       (λ w. inr (λ f. true≢false (sym g ∙ f), rules .0 (refused .0 (sym e ∙ w))), ⊎-elim (λ w. absurd (true≢false (sym g ∙ w .1))) (λ w. e ∙ refused .1 (rules .1 (w .1))))
 
   -- others: 15, before all
   unsound-given : good bs ≡ false → Given
   unsound-given g =
-      let e : refusalField answer ≡ 15 = ap refusalField (sym (refused-answer bs (q .number) (q .a) (q .b) g)) in
+      let e = unsound-refusal bs q g in
       (λ w. inl (sym e ∙ w, g), ⊎-elim (λ w. e ∙ w .0) (λ w. absurd (w .0 g)))
 
 pub given-of-bytes : (bs : List ℕ) (q : Request) (x : Result) → Bytes bs → Asked q → Allowed bs q x → (n : ℕ) → n ≢ 0 → (refusalField (x .answer) ≡ n) ↔ FirstOf (reasonsOfBytes bs q) n

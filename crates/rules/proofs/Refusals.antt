@@ -1,21 +1,21 @@
 -- A call is refused by the first check that holds, and then nothing changes; or no check holds, and it is done. Assumes nothing.
 use Prim.Native.Nat.{_+_, _≤_, zero, suc, ℕ}
 use native.Mathlib.Omega.{arith}
-use mathlib.Core.Bool.{Bool, _&&_, false, false≢true, not, true, true≢false}
+use mathlib.Core.Bool.{Bool, _&&_, false, not, true, true≢false}
 use mathlib.Core.List.{List, [], _∷_}
 use mathlib.Core.Logic.{_≢_}
 use mathlib.Core.Option.{Option, none, some, Option·none-ne-some, Option·some-injective}
-use mathlib.Core.Path.{_∙_, _≡_, refl, subst, sym}
-use lib.Dec.{eqb, leb, ltb}
+use mathlib.Core.Path.{_∙_, _≡_, ap, refl, subst, sym}
+use lib.Dec.{leb, ltb}
 use lib.IntN.{ℤ}
-use borrow.Author.Tests.{eq-eqb, leb-true, ltb-true}
-use Rattle.lists.specs.Lists.{if_then_else_}
+use borrow.Author.Tests.{eq-eqb, leb-true}
+use Rattle.lists.specs.Lists.{Each, if_then_else_}
 use Rattle.lists.proofs.Bools.{both, split}
 use Rattle.tables.specs.declared.Tables.{Tables}
 use Rattle.tables.specs.Readers.{currentOf}
 use Rattle.rules.specs.declared.Answer.the-variants.{Done, Refused}
 use Rattle.rules.specs.declared.Outcome.{Outcome}
-use Rattle.rules.specs.Answers.{Check, _when_, NoneHolds, refused, unless}
+use Rattle.rules.specs.Answers.{Check, _when_, NoneHolds, Ranged, elsewhere, lastRefusal, mayRefuse, numberOf, refused, unless}
 use Rattle.rules.specs.Calls.{Accepted, Call, Count, Deed, Delete, Kill, MakeProcess, MakeSemaphore, Reset, Resume, Signal, Suspend, Wait, Yield, checks, deed, finish, step}
 use Rattle.rules.specs.Enter.{Form, forms, lineOf, formOf, callOf, spare, called, numbered}
 use Rattle.rules.specs.declared.Answer.{Answer}
@@ -52,6 +52,14 @@ step-cases t P ref c h = unless-cases (λ n. refused n t) P ref (checks t c) (fi
 pub step-refused : (t : Tables) (c : Call) (n : ℕ) → step t c .answer ≡ Refused n → step t c .tables ≡ t
 step-refused t c n = step-cases t (λ o. o .answer ≡ Refused n → o .tables ≡ t) (λ m e. refl) c (λ k e. absurd (finish-done (deed t c) n e))
 
+-- what is true of the number of each check that holds is true of the number of a refusal
+unless-number : (t : Tables) (P : ℕ → Type 0) (cs : List Check) (o : Outcome) (n : ℕ) → Each (λ c. c .holds ≡ true → P (c .number)) cs → (o .answer ≡ Refused n → P n) → unless (λ m. refused m t) cs o .answer ≡ Refused n → P n
+unless-number t P [] o n h done e = done e
+unless-number t P (c ∷ cs) o n (h, hs) done e =
+    split (c .holds)
+    (λ d. let given = rw d at e in let k : c .number ≡ n = cc in subst P k (h d))
+    (λ d. unless-number t P cs o n hs done (rw d at e))
+
 -- no wait by process 0 is accepted
 pub null-waits-none : (t : Tables) → currentOf t ≡ 0 → (c : Call) → Accepted t c → (a : ℤ) → c ≢ Wait a
 null-waits-none t z c k a e = true≢false (sym (eq-eqb (currentOf t) 0 z) ∙ subst (Accepted t) e k .1 .1 .0)
@@ -68,6 +76,18 @@ numbered-cases t P ref n a b call = go (formOf n) refl
 pub numbered-refused : (t : Tables) (n : ℕ) (a b : ℤ) (m : ℕ) → numbered t n a b .answer ≡ Refused m → numbered t n a b .tables ≡ t
 numbered-refused t n a b m = numbered-cases t (λ o. o .answer ≡ Refused m → o .tables ≡ t) (λ i e. refl) n a b (λ f k. step-refused t (callOf f a b) m)
 
+-- what is true of 13, of 14 and of the number of each check that holds is true of the number of a refusal
+pub numbered-number : (t : Tables) (P : ℕ → Type 0) (n : ℕ) (a b : ℤ) (m : ℕ) → P 13 → P 14 → ((f : Form) → formOf n ≡ some f → Each (λ c. c .holds ≡ true → P (c .number)) (checks t (callOf f a b))) → numbered t n a b .answer ≡ Refused m → P m
+unfolding numbered step
+numbered-number t P n a b m unknown spared own = go (formOf n) refl
+  where
+    go : (f : Option Form) → formOf n ≡ f → called t f a b .answer ≡ Refused m → P m
+    go none e r = let k : _≡_ {A = ℕ} 13 m = cc in subst P k unknown
+    go (some f) e r =
+        unless-number t P ((14 when spare f a b) ∷ []) (step t (callOf f a b)) m (λ h. spared, tt)
+        (unless-number t P (checks t (callOf f a b)) (finish (deed t (callOf f a b))) m (own f e) (λ d. absurd (finish-done (deed t (callOf f a b)) m d)))
+        r
+
 -- what is true of each line of the list, from 1 on, is true of a number and its form
 
 abbrev pub AllFrom : (ℕ → Form → Type 0) → ℕ → List Form → Type 0
@@ -83,56 +103,33 @@ pub number-has : (P : ℕ → Form → Type 0) → AllFrom P 1 forms → (n : �
 number-has P h zero f e = absurd (Option·none-ne-some f e)
 number-has P h (suc n) f e = line-has P 1 forms h n f e (suc n) (omega arith)
 
--- Every refusal of a call on sound tables has one of the paper's numbers: 1 to 14, and never 12, which is for a line of the bench
+-- Every refusal of a call on sound tables has one of its numbers
 
-abbrev isOwn : ℕ → Bool
-isOwn n = ltb 0 n && (leb n 14 && not (eqb n 12))
-
-abbrev allOwn : List Check → Bool
-allOwn [] = true
-allOwn (c ∷ cs) = isOwn (c .number) && allOwn cs
-
-abbrev Own : Answer → Type 0
-Own (Done v) = Unit
-Own (Refused n) = isOwn n ≡ true
-
-unless-own : (t : Tables) (cs : List Check) (o : Outcome) → allOwn cs ≡ true → Own (o .answer) → Own (unless (λ n. refused n t) cs o .answer)
-unless-own t [] o r h = h
-unless-own t (c ∷ cs) o r h =
-    let k = both (isOwn (c .number)) (allOwn cs) r in
-    split (c .holds) (λ e. rw e (k .0)) (λ e. rw e (unless-own t cs o (k .1) h))
-
-checks-own : (t : Tables) (c : Call) → allOwn (checks t c) ≡ true
-checks-own t (Wait a) = refl
-checks-own t (Signal a) = refl
-checks-own t (MakeSemaphore a) = refl
-checks-own t (Delete a) = refl
-checks-own t (Reset a b) = refl
-checks-own t (MakeProcess a) = refl
-checks-own t (Resume a) = refl
-checks-own t (Suspend a) = refl
-checks-own t (Kill a) = refl
-checks-own t Yield = refl
-checks-own t (Count a) = refl
-
-numbered-own : (t : Tables) (n : ℕ) (a b : ℤ) → Own (numbered t n a b .answer)
-unfolding numbered step
-numbered-own t n a b = go (formOf n)
-  where
-    go : (f : Option Form) → Own (called t f a b .answer)
-    go none = refl
-    go (some f) = unless-own t ((14 when spare f a b) ∷ []) (step t (callOf f a b)) refl (unless-own t (checks t (callOf f a b)) (finish (deed t (callOf f a b))) (checks-own t (callOf f a b)) tt)
-
-abbrev pub Ranged : Answer → Type 0
-Ranged (Done v) = Unit
-Ranged (Refused n) = (1 ≤ n) × (n ≤ 14)
-
-own-ranged : (r : Answer) → Own r → Ranged r
-own-ranged (Done v) h = tt
-own-ranged (Refused n) h = let k = both (ltb 0 n) (leb n 14 && not (eqb n 12)) h in (ltb-true 0 n (k .0), leb-true n 14 (both (leb n 14) (not (eqb n 12)) (k .1) .0))
+checks-ranged : (t : Tables) (c : Call) → Each (λ k. k .holds ≡ true → mayRefuse (k .number) ≡ true) (checks t c)
+checks-ranged t (Wait a) = (λ h. refl, (λ h. refl, (λ h. refl, tt)))
+checks-ranged t (Signal a) = (λ h. refl, (λ h. refl, (λ h. refl, tt)))
+checks-ranged t (MakeSemaphore a) = (λ h. refl, (λ h. refl, tt))
+checks-ranged t (Delete a) = (λ h. refl, (λ h. refl, tt))
+checks-ranged t (Reset a b) = (λ h. refl, (λ h. refl, (λ h. refl, tt)))
+checks-ranged t (MakeProcess a) = (λ h. refl, (λ h. refl, tt))
+checks-ranged t (Resume a) = (λ h. refl, (λ h. refl, (λ h. refl, tt)))
+checks-ranged t (Suspend a) = (λ h. refl, (λ h. refl, (λ h. refl, (λ h. refl, tt))))
+checks-ranged t (Kill a) = (λ h. refl, (λ h. refl, (λ h. refl, tt)))
+checks-ranged t Yield = tt
+checks-ranged t (Count a) = (λ h. refl, (λ h. refl, tt))
 
 pub numbered-ranged : (t : Tables) (n : ℕ) (a b : ℤ) → Ranged (numbered t n a b .answer)
-numbered-ranged t n a b = own-ranged (numbered t n a b .answer) (numbered-own t n a b)
+numbered-ranged t n a b = go (numbered t n a b .answer) refl
+  where
+    go : (r : Answer) → numbered t n a b .answer ≡ r → Ranged r
+    go (Done v) e = tt
+    go (Refused m) e = numbered-number t (λ i. mayRefuse i ≡ true) n a b m refl refl (λ f k. checks-ranged t (callOf f a b)) e
 
-pub numbered-never-12 : (t : Tables) (n : ℕ) (a b : ℤ) → numbered t n a b .answer ≡ Refused 12 → ⊥
-numbered-never-12 t n a b e = false≢true (subst Own e (numbered-own t n a b))
+pub ranged-last : (r : Answer) → Ranged r → numberOf r ≤ lastRefusal
+ranged-last (Done v) h = omega arith
+ranged-last (Refused n) h = leb-true n lastRefusal (both (leb n lastRefusal) (not (elsewhere n)) (both (ltb 0 n) (leb n lastRefusal && not (elsewhere n)) h .1) .0)
+
+-- and none that is given elsewhere
+pub ranged-not : (r : Answer) → Ranged r → (n : ℕ) → mayRefuse n ≡ false → numberOf r ≡ n → n ≡ 0
+ranged-not (Done v) h n out e = sym e
+ranged-not (Refused m) h n out e = absurd (true≢false (sym h ∙ ap mayRefuse e ∙ out))

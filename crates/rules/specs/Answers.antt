@@ -1,7 +1,8 @@
 -- Answers, and the paper's number and value for each.
 use Prim.Native.Nat.{ℕ}
+use lib.Dec.{eqb, leb, ltb}
 use lib.IntN.{ℤ, negsuc}
-use mathlib.Core.Bool.{Bool, false}
+use mathlib.Core.Bool.{Bool, true, false, not, _&&_}
 use mathlib.Core.List.{List, [], _∷_}
 use mathlib.Core.Path.{_≡_}
 use Rattle.lists.specs.Lists.{Each, if_then_else_}
@@ -19,6 +20,24 @@ numberOf (Refused n) = n
 abbrev pub valueOf : Answer → ℤ
 valueOf (Done v) = v
 valueOf (Refused n) = negsuc 0
+
+-- The numbers that a call on sound tables may be refused with
+
+abbrev pub lastRefusal : ℕ
+lastRefusal = 14
+
+-- 12 is for a line of the bench
+abbrev pub elsewhere : ℕ → Bool
+elsewhere n = eqb n 12
+
+abbrev pub mayRefuse : ℕ → Bool
+mayRefuse n = ltb 0 n && (leb n lastRefusal && not (elsewhere n))
+
+abbrev pub Ranged : Answer → Type 0
+Ranged (Done v) = Unit
+Ranged (Refused n) = mayRefuse n ≡ true
+
+-- Outcomes
 
 abbrev pub done : ℤ → Tables → Outcome
 done v t = record { tables = t; answer = Done v }

@@ -28,12 +28,12 @@ use Rattle.tables.proofs.States.{is-free, is-current, is-ready, is-suspended}
 use Rattle.tables.proofs.TestLaws.{checked-sound, sound-checked}
 use Rattle.rules.specs.declared.Answer.the-variants.{Refused}
 use Rattle.rules.specs.declared.Outcome.{Outcome}
-use Rattle.rules.specs.Answers.{Check, _when_, refused, unless}
+use Rattle.rules.specs.Answers.{Check, _when_, Ranged, refused, unless}
 use Rattle.rules.specs.Calls.{Call, Wait, Signal, MakeSemaphore, Delete, Reset, MakeProcess, Resume, Suspend, Kill, Yield, Count, below0, outside, largest, noSemaphore, notUsed, noCount, noProcess, notLive, nullProcess, freeSemaphores, freeSlots, checks, deed, finish, step}
 use Rattle.rules.specs.Enter.{Form, forms, formOf, isZero, spare, callOf, called, numbered, enter}
 use Rattle.telling.specs.Reasons.{Reason, Exactly, FirstOf, noSuchSemaphore, semaphoreFree, countBelow0, allUsed, countLargest, noSuchProcess, slotFree, allLive, notSuspended, notRunnable, process0, noSuchPriority, noSuchCall, argumentsOf, spareArgument, notSound, ownReasons, callReasons, numberedReasons, reasons}
 use Rattle.rules.proofs.Numbers.{number-known, number-past}
-use Rattle.rules.proofs.Refusals.{Ranged, finish-done, AllFrom, number-has, numbered-ranged, numbered-never-12}
+use Rattle.rules.proofs.Refusals.{finish-done, AllFrom, number-has, numbered-ranged}
 
 -- Number by number
 
@@ -186,7 +186,7 @@ pub given-15 : (t : Tables) (m : ℕ) (a b : ℤ) → (enter t m a b .outcome .a
 unfolding enter
 given-15 t m a b =
     split (soundNow t)
-    (λ e. rw e (λ r. let k = subst Ranged r (numbered-ranged t m a b) in absurd (omega arith), λ k. absurd (k (checked-sound e))))
+    (λ e. rw e (λ r. absurd (true≢false (sym (subst Ranged r (numbered-ranged t m a b)))), λ k. absurd (k (checked-sound e))))
     (λ e. rw e (λ r S. true≢false (sym (sound-checked S) ∙ e), λ k. refl))
 
 -- every call, by its number: 15, 13, 14, then the call's own
@@ -200,4 +200,4 @@ given-exactly t F m a b n =
 -- 12 is for a line of the bench, and no call gives it
 pub never-12 : (t : Tables) (m : ℕ) (a b : ℤ) → enter t m a b .outcome .answer ≡ Refused 12 → ⊥
 unfolding enter
-never-12 t m a b = split (soundNow t) (λ e. rw e (numbered-never-12 t m a b)) (λ e. rw e (λ r. let k : _≡_ {A = ℕ} 15 12 = cc in omega arith))
+never-12 t m a b = split (soundNow t) (λ e. rw e (λ r. true≢false (sym (subst Ranged r (numbered-ranged t m a b))))) (λ e. rw e (λ r. let k : _≡_ {A = ℕ} 15 12 = cc in omega arith))
