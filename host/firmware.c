@@ -4,7 +4,8 @@
  * the first of them is killed when its browser tab closes. Its number goes to a
  * new handler, which is still suspended. Then the lock is given back: the other
  * waiter gets it and the new handler stays where it is, for no queue remembers
- * the dead one. Who waits for what is read from the status page.
+ * the dead one. Who waits for what is read from the status page; where a resume
+ * or a suspend is refused, its number alone tells in which state the process is.
  */
 #include <stdio.h>
 #include <stdlib.h>
@@ -125,6 +126,29 @@ static void print_state(int32_t process)
            (long)call("count of the lock", COTTONSEDGE_COUNT, LOCK, 0));
 }
 
+/* The state that a refused resume or suspend names by its number, 0 for none. */
+static uint8_t state_found(uint8_t refusal)
+{
+    switch (refusal) {
+    case COTTONSEDGE_FOUND_CURRENT: return COTTONSEDGE_STATE_CURRENT;
+    case COTTONSEDGE_FOUND_READY: return COTTONSEDGE_STATE_READY;
+    case COTTONSEDGE_FOUND_SUSPENDED: return COTTONSEDGE_STATE_SUSPENDED;
+    case COTTONSEDGE_FOUND_WAITING: return COTTONSEDGE_STATE_WAITING;
+    default: return 0;
+    }
+}
+
+/* What support reads from the number is what the page shows. */
+static void refused_by_state(const char *what, uint8_t number, int32_t process)
+{
+    uint64_t answer = cottonsedge_call(tables, sizeof tables, number, process, 0);
+    uint8_t found = state_found(cottonsedge_refusal(answer));
+
+    printf("%s %ld: refused with %d, so it is %s\n", what, (long)process, cottonsedge_refusal(answer), state_name(found));
+    if (found == 0 || found != state_of(process))
+        exit(EXIT_FAILURE);
+}
+
 /* The idle loop is process 0: it takes no permits. */
 static void idle_is_refused(void)
 {
@@ -201,8 +225,11 @@ int main(void)
     int32_t dead = three_handlers();
     step("a request comes in", COTTONSEDGE_SIGNAL, REQUESTS, 0);
     print_page();
+    for (int32_t process = 1; process <= dead; process++)
+        refused_by_state("server: resume process", COTTONSEDGE_RESUME, process);
     step("server: the tab closed, kill the second", COTTONSEDGE_KILL, dead, 0);
     int32_t reborn = number_again(dead);
+    refused_by_state("server: suspend process", COTTONSEDGE_SUSPEND, reborn);
     step("server: wait for a request", COTTONSEDGE_WAIT, REQUESTS, 0);
     step("first handler: give the lock back", COTTONSEDGE_SIGNAL, LOCK, 0);
     print_state(reborn);

@@ -121,9 +121,28 @@ static void refusals_of_processes(void)
     for (int p = 1; p < COTTONSEDGE_PROCESSES; p++)
         call(COTTONSEDGE_MAKE_PROCESS, COTTONSEDGE_HIGHEST_PRIORITY, 0);
     check("SLOTS_USED_UP", refusal(COTTONSEDGE_MAKE_PROCESS, 1, 0), COTTONSEDGE_SLOTS_USED_UP);
-    check("WRONG_STATE", refusal(COTTONSEDGE_SUSPEND, 1, 0), COTTONSEDGE_WRONG_STATE);
     check("NULL_PROCESS", refusal(COTTONSEDGE_SUSPEND, 0, 0), COTTONSEDGE_NULL_PROCESS);
     check("PRIORITY_RANGE", refusal(COTTONSEDGE_MAKE_PROCESS, COTTONSEDGE_HIGHEST_PRIORITY + 1, 0), COTTONSEDGE_PRIORITY_RANGE);
+}
+
+/* A refused resume or suspend names the state that it found. */
+static void refusals_by_state(void)
+{
+    boot();
+    call(COTTONSEDGE_MAKE_SEMAPHORE, 0, 0);
+    call(COTTONSEDGE_MAKE_PROCESS, 7, 0);
+    check("FOUND_SUSPENDED", refusal(COTTONSEDGE_SUSPEND, 1, 0), COTTONSEDGE_FOUND_SUSPENDED);
+    check("FOUND_CURRENT of process 0", refusal(COTTONSEDGE_RESUME, 0, 0), COTTONSEDGE_FOUND_CURRENT);
+    call(COTTONSEDGE_RESUME, 1, 0);
+    check("FOUND_CURRENT", refusal(COTTONSEDGE_RESUME, 1, 0), COTTONSEDGE_FOUND_CURRENT);
+    check("FOUND_READY", refusal(COTTONSEDGE_RESUME, 0, 0), COTTONSEDGE_FOUND_READY);
+    call(COTTONSEDGE_WAIT, 0, 0);
+    check("FOUND_WAITING of a resume", refusal(COTTONSEDGE_RESUME, 1, 0), COTTONSEDGE_FOUND_WAITING);
+    check("FOUND_WAITING of a suspend", refusal(COTTONSEDGE_SUSPEND, 1, 0), COTTONSEDGE_FOUND_WAITING);
+    check("FOUND_SUSPENDED is 9", COTTONSEDGE_FOUND_SUSPENDED, 9);
+    check("FOUND_CURRENT is 17", COTTONSEDGE_FOUND_CURRENT, 17);
+    check("FOUND_READY is 18", COTTONSEDGE_FOUND_READY, 18);
+    check("FOUND_WAITING is 19", COTTONSEDGE_FOUND_WAITING, 19);
 }
 
 static void shared_refusals(void)
@@ -210,6 +229,7 @@ int main(void)
     calls();
     refusals_of_semaphores();
     refusals_of_processes();
+    refusals_by_state();
     shared_refusals();
     rows_of_five();
     refusals_of_the_page();

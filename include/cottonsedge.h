@@ -61,14 +61,17 @@ enum {
     COTTONSEDGE_NO_SUCH_PROCESS = 6,     /* number below 0 or above 31 */
     COTTONSEDGE_SLOT_FREE = 7,           /* that slot is free */
     COTTONSEDGE_SLOTS_USED_UP = 8,       /* slots 1 to 31 are all live */
-    COTTONSEDGE_WRONG_STATE = 9,         /* resume: not suspended; suspend: neither ready nor current */
+    COTTONSEDGE_FOUND_SUSPENDED = 9,     /* suspend of a suspended process */
     COTTONSEDGE_NULL_PROCESS = 10,       /* kill or suspend of process 0, or any wait by it */
     COTTONSEDGE_PRIORITY_RANGE = 11,     /* priority below 1 or above 63 */
     COTTONSEDGE_BAD_LINE = 12,           /* bench program only */
     COTTONSEDGE_NO_SUCH_CALL = 13,       /* call number not in 01 to 0b */
     COTTONSEDGE_SPARE_ARGUMENT = 14,     /* an argument the call doesn't use isn't 0 */
     COTTONSEDGE_UNSOUND = 15,            /* the bytes lent aren't sound tables, or not 698 */
-    COTTONSEDGE_TOO_FEW_ROWS = 16        /* status page only: fewer rows lent than there are live processes */
+    COTTONSEDGE_TOO_FEW_ROWS = 16,       /* status page only: fewer rows lent than there are live processes */
+    COTTONSEDGE_FOUND_CURRENT = 17,      /* resume of the current process */
+    COTTONSEDGE_FOUND_READY = 18,        /* resume of a ready process */
+    COTTONSEDGE_FOUND_WAITING = 19       /* resume or suspend of a waiting process */
 };
 
 /* The states that a row of the status page tells. */

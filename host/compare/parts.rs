@@ -8,10 +8,13 @@ use compare::lines;
 use compare::report::Report;
 use compare::steps::View;
 use compare::streams::of_kind;
-use compare::tally::Tally;
+use compare::tally::{Tally, NUMBERS};
 use compare::wrongs::caught;
 use second::layout::LAST_CALL;
 use second::wrong::KERNELS;
+
+/// The refusals that name a state: the call, the number.
+const BY_STATE: [(usize, usize); 5] = [(0x07, 17), (0x07, 18), (0x07, 19), (0x08, 9), (0x08, 19)];
 
 pub struct Run<'a> {
     pub options: &'a Options,
@@ -85,9 +88,16 @@ impl Run<'_> {
         self.tally.print();
         let calls = self.tally.done[1..].iter().all(|&done| done > 0);
         self.report.holds(&format!("every call 01 to {:02x} was done", LAST_CALL), calls);
-        let shown = |number: &usize| (*number != 12 || bench) && (*number != 15 || entries);
-        let refusals = (1..16).filter(shown).all(|number| self.tally.numbers[number] > 0);
+        let shown = |number: &usize| match number {
+            12 => bench,
+            15 => entries,
+            16 => false,
+            _ => true,
+        };
+        let refusals = (1..NUMBERS).filter(shown).all(|number| self.tally.numbers[number] > 0);
         self.report.holds("every refusal that can be shown was given", refusals);
+        let named = BY_STATE.iter().all(|&(call, number)| self.tally.refused[call][number] > 0);
+        self.report.holds("resume and suspend met every wrong state", named);
         if entries && self.options.scale == 1 && self.options.view == View::Bytes {
             let million = self.tally.compared >= 1_000_000;
             self.report.holds("at least a million calls were compared", million);

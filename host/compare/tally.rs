@@ -7,12 +7,15 @@ use second::layout::LAST_CALL;
 /// A row for each call; unknown ones stand in row 0.
 const ROWS: usize = LAST_CALL as usize + 1;
 
+/// A column for each refusal, 0 for none; a call is never refused with 16.
+pub const NUMBERS: usize = 20;
+
 #[derive(Default)]
 pub struct Tally {
     pub compared: u64,
     pub done: [u64; ROWS],
-    pub refused: [[u64; 16]; ROWS],
-    pub numbers: [u64; 16],
+    pub refused: [[u64; NUMBERS]; ROWS],
+    pub numbers: [u64; NUMBERS],
     pub marks: Marks,
     pub pages: PageMarks,
 }
@@ -36,7 +39,7 @@ impl Tally {
             let name = if call == 0 { "other".to_string() } else { format!("   {:02x}", call) };
             println!("  {} done {:>8}, refused {}", name, self.done[call], text.join(", "));
         }
-        let numbers: Vec<String> = (1..16).map(|n| format!("{}: {}", n, self.numbers[n])).collect();
+        let numbers: Vec<String> = (1..NUMBERS).map(|n| format!("{}: {}", n, self.numbers[n])).collect();
         println!("  refusals in all {}", numbers.join(", "));
     }
 }

@@ -132,6 +132,17 @@ static Answer make_process(Tables *t, int32_t a)
     return refused(8);
 }
 
+/* The number that names a state other than free. */
+static unsigned found(unsigned state)
+{
+    switch (state) {
+    case CURRENT: return 17;
+    case READY: return 18;
+    case SUSPENDED: return 9;
+    default: return 19;
+    }
+}
+
 static Answer resume(Tables *t, int32_t a)
 {
     if (a < 0 || a >= P)
@@ -139,7 +150,7 @@ static Answer resume(Tables *t, int32_t a)
     if (t->state[a] == FREE)
         return refused(7);
     if (t->state[a] != SUSPENDED)
-        return refused(9);
+        return refused(found(t->state[a]));
     make_ready(t, (unsigned)a);
     reschedule(t);
     return done(t->priority[a]);
@@ -161,7 +172,7 @@ static Answer suspend(Tables *t, int32_t a)
         return refused(fault);
     unsigned state = t->state[a];
     if (state != READY && state != CURRENT)
-        return refused(9);
+        return refused(found(state));
     t->state[a] = SUSPENDED;
     if (state == CURRENT)
         reschedule(t);

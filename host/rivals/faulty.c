@@ -26,6 +26,9 @@ enum {
     ONE_LEVEL,         /* priority 62 is stored as 61 */
     NULL_TAKES,        /* a wait by process 0 takes a permit that is there */
     NULL_BEFORE_2,     /* a wait by process 0 on a free semaphore is told 10 */
+    STATES_UNNAMED,    /* a resume or suspend of a wrong state is told 9 */
+    STATES_EXCHANGED,  /* a resume of the current process is told 18, of a ready one 17 */
+    SUSPENDED_AS_19,   /* a suspend of a suspended process is told 19 */
     PLACES_FROM_0,     /* the page counts places from 0 */
     PLACES_BY_NUMBER,  /* the page counts places by process number */
     ONE_STATE,         /* the page shows the suspended as ready */
@@ -63,6 +66,12 @@ static int waiters_31(const Tables *t, int32_t a)
     return a >= 0 && a < S && t->count[a][0] == 256 - 31 && t->count[a][3] == 255;
 }
 
+/* An answer with another refusal. */
+static uint64_t renumbered(uint64_t answer, int refusal)
+{
+    return (answer & UINT64_C(0xffffffffff)) | (uint64_t)refusal << 40;
+}
+
 /* Process 0 takes a permit if there is one. */
 static uint64_t take(Tables *t, int32_t a, uint64_t answer)
 {
@@ -80,8 +89,22 @@ static uint64_t spoil_wait(Tables *t, int32_t a, uint64_t answer)
     if (fault() == NULL_TAKES && refusal == COTTONSEDGE_NULL_PROCESS)
         return take(t, a, answer);
     if (fault() == NULL_BEFORE_2 && refusal == COTTONSEDGE_SEMAPHORE_FREE && cottonsedge_process(answer) == 0)
-        return answer + (UINT64_C(8) << 40);
+        return renumbered(answer, COTTONSEDGE_NULL_PROCESS);
     return answer;
+}
+
+/* What a fault makes of a refusal that names a state. */
+static uint64_t spoil_state(uint64_t answer)
+{
+    switch (cottonsedge_refusal(answer)) {
+    case COTTONSEDGE_FOUND_SUSPENDED:
+        return fault() == SUSPENDED_AS_19 ? renumbered(answer, COTTONSEDGE_FOUND_WAITING) : answer;
+    case COTTONSEDGE_FOUND_CURRENT:
+        return fault() == STATES_EXCHANGED ? renumbered(answer, COTTONSEDGE_FOUND_READY) : answer;
+    case COTTONSEDGE_FOUND_READY:
+        return fault() == STATES_EXCHANGED ? renumbered(answer, COTTONSEDGE_FOUND_CURRENT) : answer;
+    default: return answer;
+    }
 }
 
 /* What a fault does to tables after a call that was answered. */
@@ -101,6 +124,9 @@ static uint64_t spoil(Tables *t, uint8_t call, int32_t a, uint64_t answer, int d
     case ONE_LEVEL: if (done && call == COTTONSEDGE_MAKE_PROCESS && a == 62) t->priority[cottonsedge_value(answer)]--; break;
     case NULL_TAKES:
     case NULL_BEFORE_2: return call == COTTONSEDGE_WAIT ? spoil_wait(t, a, answer) : answer;
+    case STATES_UNNAMED: if (cottonsedge_refusal(answer) >= COTTONSEDGE_FOUND_CURRENT) return renumbered(answer, COTTONSEDGE_FOUND_SUSPENDED); break;
+    case STATES_EXCHANGED:
+    case SUSPENDED_AS_19: return spoil_state(answer);
     default: break;
     }
     return answer;

@@ -316,12 +316,24 @@ static int make_process(Linked *t, int32_t a, int32_t *value)
     return 8;
 }
 
+/* The number that names the state found. */
+static int found(unsigned state)
+{
+    switch (state) {
+    case LINKED_FREE: return 7;
+    case LINKED_CURRENT: return 17;
+    case LINKED_READY: return 18;
+    case LINKED_SUSPENDED: return 9;
+    default: return 19;
+    }
+}
+
 static int resume(Linked *t, int32_t a, int32_t *value)
 {
     if (a < 0 || a >= P)
         return 6;
     if (t->process[a].state != LINKED_SUSPENDED)
-        return t->process[a].state == LINKED_FREE ? 7 : 9;
+        return found(t->process[a].state);
     *value = t->process[a].priority;
     make_ready(t, (uint8_t)a);
     reschedule(t);
@@ -345,7 +357,7 @@ static int suspend(Linked *t, int32_t a, int32_t *value)
         return fault;
     unsigned state = t->process[a].state;
     if (state != LINKED_READY && state != LINKED_CURRENT)
-        return 9;
+        return found(state);
     *value = t->process[a].priority;
     if (state == LINKED_READY)
         unlink(t, &t->ready, (uint8_t)a);

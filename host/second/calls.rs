@@ -84,6 +84,23 @@ impl Kernel {
         }
     }
 
+    /// Refusals 9, 17, 18 and 19: the number names the state found.
+    fn found(&self, p: usize, state: State) -> u8 {
+        match (self.wrong, state) {
+            (Wrong::StatesUnnamed, _) => 9,
+            (Wrong::CurrentAsReady, State::Current) => 18,
+            (Wrong::CurrentAsReady, State::Ready) => 17,
+            (Wrong::SuspendedAsWaiting, State::Suspended) => 19,
+            (Wrong::WaitingAsSuspended, State::Waiting(_)) => 9,
+            (Wrong::NullAsCurrent, State::Ready) if p == 0 => 17,
+            (_, State::Free) => 7,
+            (_, State::Suspended) => 9,
+            (_, State::Current) => 17,
+            (_, State::Ready) => 18,
+            (_, State::Waiting(_)) => 19,
+        }
+    }
+
     /// Refusal 3.
     fn not_below_0(&self, count: i32) -> Checked<i32> {
         if count < 0 {
@@ -204,8 +221,9 @@ impl Kernel {
         if p == 0 && self.is(Wrong::ResumeRefusesNull) {
             return Err(10);
         }
-        if self.live(p)? != State::Suspended {
-            return Err(9);
+        let state = self.live(p)?;
+        if state != State::Suspended {
+            return Err(self.found(p, state));
         }
         self.make_ready(p);
         if !self.is(Wrong::ResumeQuiet) {
@@ -221,7 +239,7 @@ impl Kernel {
         }
         let state = self.live(p)?;
         if state != State::Ready && state != State::Current {
-            return Err(9);
+            return Err(self.found(p, state));
         }
         self.leave_ready(p);
         self.set(p, State::Suspended);

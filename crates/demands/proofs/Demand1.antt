@@ -64,6 +64,7 @@ module _ {t : Tables} (S : Sound t) (F : CountsFit t) (q : Request) (k : Asked q
         unsound = λ h. absurd (true≢false (sym g ∙ h));
         sound = λ h. rw (refusal, call-process S F n a b fa fb) (λ e. omega (arith, ranged-not r ranged 15 refl e), call-runs S F n a b);
         never12 = rw refusal (λ e. omega (arith, ranged-not r ranged 12 refl e));
+        never16 = rw refusal (λ e. omega (arith, ranged-not r ranged 16 refl e));
       }
 
 -- Others
@@ -78,6 +79,7 @@ unsound-demand1 bs q byte g =
       unsound = λ h. (refl, refl);
       sound = λ h. absurd (true≢false (sym h ∙ g));
       never12 = λ h. omega arith;
+      never16 = λ h. omega arith;
     }
 
 exact-demand1 : (bs : List ℕ) (q : Request) → Bytes bs → Asked q → Demand1 bs (exact bs q)

@@ -29,7 +29,7 @@ abbrev requestsOf : Edge → List Request
 requestsOf e = e .request ∷ reverse (e .before)
 
 edges-asked : Each (λ e. allAsked (requestsOf e) ≡ true) edges
-edges-asked = (refl, (refl, (refl, (refl, (refl, (refl, (refl, (refl, (refl, (refl, (refl, (refl, (refl, (refl, (refl, (refl, (refl, (refl, (refl, tt)))))))))))))))))))
+edges-asked = (refl, (refl, (refl, (refl, (refl, (refl, (refl, (refl, (refl, (refl, (refl, (refl, (refl, (refl, (refl, (refl, (refl, (refl, (refl, (refl, (refl, (refl, (refl, (refl, (refl, (refl, tt))))))))))))))))))))))))))
 
 -- Of the bytes the same is seen as of the tables
 

@@ -1,6 +1,7 @@
 pub mod SmallBytes
 pub mod Demand1
 pub mod Given
+pub mod Named
 pub mod Asked
 pub mod Sessions
 pub mod ShutOut

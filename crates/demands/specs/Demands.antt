@@ -41,8 +41,9 @@ pub record Demand1 (bs : List ℕ) (x : Result) : Type 0 where
   pub unsound : good bs ≡ false → (refusalField (x .answer) ≡ 15) × (processField (x .answer) ≡ nobody)
   -- sound ones never are, and a process is told
   pub sound : good bs ≡ true → (refusalField (x .answer) ≢ 15) × (processField (x .answer) < processLimit)
-  -- 12 is the bench's alone
+  -- 12 is the bench's alone, 16 the status page's
   pub never12 : refusalField (x .answer) ≢ 12
+  pub never16 : refusalField (x .answer) ≢ 16
 
 -- when each refusal number is given: the first of these reasons that holds gives its own
 

@@ -11,7 +11,7 @@ use Rattle.arguments.specs.Counts.{raise}
 use Rattle.arguments.specs.Index.{indexBelow}
 use Rattle.arguments.specs.declared.index.Index.the-variants.{At, Outside}
 use Rattle.rules.specs.Answers.{refused}
-use Rattle.rules.specs.Calls.{Call, Kill, Resume, Suspend, Yield, checks, noProcess, nullProcess, step}
+use Rattle.rules.specs.Calls.{Call, Kill, Resume, Suspend, Yield, checks, noProcess, nullProcess, stateRefusal, step}
 use Rattle.rules.specs.Schedule.{makeReady}
 use Rattle.rules.specs.declared.Outcome.{Outcome}
 use Rattle.scheduling.specs.Steps.{Leads, ended}
@@ -41,21 +41,21 @@ pub process-outside : (call : Call) (z : ℤ) (bs : List ℕ) → ((t : Tables) 
 process-outside call z bs e out = checks-refuse call 6 bs (λ t. noProcess z ∷ drop 1 (checks t call)) e (λ t st o. rw (no-number z processLimit out) refl)
 
 abbrev pub resumed : ℕ → Tables → State → Outcome
-resumed p t Free = refused 7 t
-resumed p t Current = refused 9 t
-resumed p t Ready = refused 9 t
+resumed p t Free = refused (stateRefusal Free) t
+resumed p t Current = refused (stateRefusal Current) t
+resumed p t Ready = refused (stateRefusal Ready) t
 resumed p t Suspended = ended (makeReady t p) (Switches (pos (priorityOf t p)))
-resumed p t (Waiting q) = refused 9 t
+resumed p t (Waiting q) = refused (stateRefusal (Waiting q)) t
 
 abbrev pub suspended : ℕ → Tables → State → Outcome
-suspended p t Free = refused 7 t
+suspended p t Free = refused (stateRefusal Free) t
 suspended p t Current = ended (withState t p Suspended) (Switches (pos (priorityOf t p)))
 suspended p t Ready = ended (withState t p Suspended) (Done (pos (priorityOf t p)))
-suspended p t Suspended = refused 9 t
-suspended p t (Waiting q) = refused 9 t
+suspended p t Suspended = refused (stateRefusal Suspended) t
+suspended p t (Waiting q) = refused (stateRefusal (Waiting q)) t
 
 abbrev pub killed : ℕ → Tables → State → Outcome
-killed p t Free = refused 7 t
+killed p t Free = refused (stateRefusal Free) t
 killed p t Current = ended (withProcess t p freeSlot) (Switches (pos 1))
 killed p t Ready = ended (withProcess t p freeSlot) (Done (pos 1))
 killed p t Suspended = ended (withProcess t p freeSlot) (Done (pos 1))
@@ -108,9 +108,9 @@ module _ (z : ℤ) (p : ℕ) (at : indexBelow z processLimit ≡ At p) where
     slot : {t : Tables} → Sound t → p < length (t .processes)
     slot S = live-slot (S .laid) p below
 
-    -- a state that the call refuses
-    pub refused-by : (call : Call) (result : Tables → State → Outcome) → ((t : Tables) (k : State) → stateOf t p ≡ k → step t call ≡ result t k) → (k : State) (n : ℕ) → ((t : Tables) → result t k ≡ refused n t) → x .state ≡ k → Leads (λ t. step t call) a a (Refused n)
-    refused-by call result by k n r e = refuses (λ t. step t call) n a (λ t st S. by t k (state k e t st) ∙ r t)
+    -- a state that the call refuses, with the number that names it
+    pub refused-by : (call : Call) (result : Tables → State → Outcome) → ((t : Tables) (k : State) → stateOf t p ≡ k → step t call ≡ result t k) → (k : State) → ((t : Tables) → result t k ≡ refused (stateRefusal k) t) → x .state ≡ k → Leads (λ t. step t call) a a (Refused (stateRefusal k))
+    refused-by call result by k r e = refuses (λ t. step t call) (stateRefusal k) a (λ t st S. by t k (state k e t st) ∙ r t)
 
     pub resume-done : (v : ℤ) (b : List ℕ) → v ≡ pos (x .priority) → x .state ≡ Suspended → (p < processLimit → Turns (λ t. makeReady t p) a b) → Leads (λ t. step t (Resume z)) a b (Switches v)
     unfolding Leads Turns

@@ -1,4 +1,4 @@
-// Call 07, resume a: a suspended process becomes ready, then a reschedule follows. Answers its priority; refuses with 6, 7 and 9.
+// Call 07, resume a: a suspended process becomes ready, then a reschedule follows. Answers its priority; refuses with 6, 7, and 17, 18 or 19 by the state found.
 use arguments::index::Index;
 use arguments::index::index_below;
 use layout::fields::process;
@@ -24,13 +24,13 @@ pub fn resume(bytes: &mut [u8], a: i32) -> Step
             let state = x.state;
             match state {
                 State::Free => Step::Refused(7),
-                State::Current => Step::Refused(9),
-                State::Ready => Step::Refused(9),
+                State::Current => Step::Refused(17),
+                State::Ready => Step::Refused(18),
                 State::Suspended => {
                     make_ready(bytes, p);
                     Step::Switches(x.priority as i32)
                 }
-                State::Waiting(_) => Step::Refused(9),
+                State::Waiting(_) => Step::Refused(19),
             }
         }
     }

@@ -1,4 +1,4 @@
-// Call 08, suspend a: a ready process leaves the list; the current one stops, and a reschedule follows. Answers its priority; refuses with 6, 10, 7 and 9.
+// Call 08, suspend a: a ready process leaves the list; the current one stops, and a reschedule follows. Answers its priority; refuses with 6, 10, 7, and 9 or 19 by the state found.
 use arguments::index::Index;
 use arguments::index::index_below;
 use layout::fields::process;
@@ -36,7 +36,7 @@ pub fn suspend(bytes: &mut [u8], a: i32) -> Step
                     Step::Done(x.priority as i32)
                 }
                 State::Suspended => Step::Refused(9),
-                State::Waiting(_) => Step::Refused(9),
+                State::Waiting(_) => Step::Refused(19),
             }
         }
     }

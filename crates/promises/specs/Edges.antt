@@ -111,9 +111,19 @@ edges =
     ∷ does [] 0 (call 6 (pos 63)) (pos 1) notInUse notInUse 0
     ∷ refuses [] 0 (call 6 (pos 64)) 11 0 notInUse
     ∷ refuses [] 0 (call 6 (pos 0)) 11 0 notInUse
-    -- suspend 0: 10; resume 0: 9
+    -- suspend 0: 10; resume 0: 17 where it is current, 18 where it is ready
     ∷ refuses [] 0 (call 8 (pos 0)) 10 0 notInUse
-    ∷ refuses [] 0 (call 7 (pos 0)) 9 0 notInUse
+    ∷ refuses [] 0 (call 7 (pos 0)) 17 0 notInUse
+    ∷ refuses (threeRuns (pos 1)) 3 (call 7 (pos 0)) 18 0 (inUse (pos 1) [])
+    -- resume the current 3: 17; the suspended 2: done, and it runs
+    ∷ refuses (threeRuns (pos 1)) 3 (call 7 (pos 3)) 17 0 (inUse (pos 1) [])
+    ∷ does (threeRuns (pos 1)) 3 (call 7 (pos 2)) (pos 20) (inUse (pos 1) []) (inUse (pos 1) []) 2
+    -- suspend the suspended 2: 9; the current 3: done, and 0 runs
+    ∷ refuses (threeRuns (pos 1)) 3 (call 8 (pos 2)) 9 0 (inUse (pos 1) [])
+    ∷ does (threeRuns (pos 1)) 3 (call 8 (pos 3)) (pos 20) (inUse (pos 1) []) (inUse (pos 1) []) 0
+    -- resume and suspend the waiting 6: 19
+    ∷ refuses threeWait 0 (call 7 (pos 6)) 19 0 (inUse minus3 (4 ∷ 6 ∷ 7 ∷ []))
+    ∷ refuses threeWait 0 (call 8 (pos 6)) 19 0 (inUse minus3 (4 ∷ 6 ∷ 7 ∷ []))
     -- kill the second of waiters 4, 6, 7: count -3 becomes -2, queue 4, 7
     ∷ does threeWait 0 (call 9 (pos 6)) (pos 1) (inUse minus3 (4 ∷ 6 ∷ 7 ∷ [])) (inUse minus2 (4 ∷ 7 ∷ [])) 0
     ∷ []

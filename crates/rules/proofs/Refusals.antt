@@ -7,16 +7,18 @@ use mathlib.Core.Logic.{_≢_}
 use mathlib.Core.Option.{Option, none, some, Option·none-ne-some, Option·some-injective}
 use mathlib.Core.Path.{_∙_, _≡_, ap, refl, subst, sym}
 use lib.Dec.{leb, ltb}
-use lib.IntN.{ℤ}
+use lib.IntN.{ℤ, natAbs}
 use borrow.Author.Tests.{eq-eqb, leb-true}
 use Rattle.lists.specs.Lists.{Each, if_then_else_}
 use Rattle.lists.proofs.Bools.{both, split}
+use Rattle.tables.specs.declared.State.{State}
+use Rattle.tables.specs.declared.State.the-variants.{Free, Current, Ready, Suspended, Waiting}
 use Rattle.tables.specs.declared.Tables.{Tables}
-use Rattle.tables.specs.Readers.{currentOf}
+use Rattle.tables.specs.Readers.{currentOf, stateOf}
 use Rattle.rules.specs.declared.Answer.the-variants.{Done, Refused}
 use Rattle.rules.specs.declared.Outcome.{Outcome}
 use Rattle.rules.specs.Answers.{Check, _when_, NoneHolds, Ranged, elsewhere, lastRefusal, mayRefuse, numberOf, refused, unless}
-use Rattle.rules.specs.Calls.{Accepted, Call, Count, Deed, Delete, Kill, MakeProcess, MakeSemaphore, Reset, Resume, Signal, Suspend, Wait, Yield, checks, deed, finish, step}
+use Rattle.rules.specs.Calls.{Accepted, Call, Count, Deed, Delete, Kill, MakeProcess, MakeSemaphore, Reset, Resume, Signal, Suspend, Wait, Yield, checks, deed, finish, stateRefusal, step}
 use Rattle.rules.specs.Enter.{Form, forms, lineOf, formOf, callOf, spare, called, numbered}
 use Rattle.rules.specs.declared.Answer.{Answer}
 
@@ -105,6 +107,13 @@ number-has P h (suc n) f e = line-has P 1 forms h n f e (suc n) (omega arith)
 
 -- Every refusal of a call on sound tables has one of its numbers
 
+state-ranged : (st : State) → mayRefuse (stateRefusal st) ≡ true
+state-ranged Free = refl
+state-ranged Current = refl
+state-ranged Ready = refl
+state-ranged Suspended = refl
+state-ranged (Waiting s) = refl
+
 checks-ranged : (t : Tables) (c : Call) → Each (λ k. k .holds ≡ true → mayRefuse (k .number) ≡ true) (checks t c)
 checks-ranged t (Wait a) = (λ h. refl, (λ h. refl, (λ h. refl, tt)))
 checks-ranged t (Signal a) = (λ h. refl, (λ h. refl, (λ h. refl, tt)))
@@ -112,8 +121,8 @@ checks-ranged t (MakeSemaphore a) = (λ h. refl, (λ h. refl, tt))
 checks-ranged t (Delete a) = (λ h. refl, (λ h. refl, tt))
 checks-ranged t (Reset a b) = (λ h. refl, (λ h. refl, (λ h. refl, tt)))
 checks-ranged t (MakeProcess a) = (λ h. refl, (λ h. refl, tt))
-checks-ranged t (Resume a) = (λ h. refl, (λ h. refl, (λ h. refl, tt)))
-checks-ranged t (Suspend a) = (λ h. refl, (λ h. refl, (λ h. refl, (λ h. refl, tt))))
+checks-ranged t (Resume a) = (λ h. refl, (λ h. refl, (λ h. state-ranged (stateOf t (natAbs a)), tt)))
+checks-ranged t (Suspend a) = (λ h. refl, (λ h. refl, (λ h. refl, (λ h. state-ranged (stateOf t (natAbs a)), tt))))
 checks-ranged t (Kill a) = (λ h. refl, (λ h. refl, (λ h. refl, tt)))
 checks-ranged t Yield = tt
 checks-ranged t (Count a) = (λ h. refl, (λ h. refl, tt))

@@ -2,7 +2,7 @@
 use Prim.Native.Nat.{ℕ}
 use lib.Dec.{eqb, leb, ltb}
 use lib.IntN.{ℤ, negsuc}
-use mathlib.Core.Bool.{Bool, true, false, not, _&&_}
+use mathlib.Core.Bool.{Bool, true, false, not, _&&_, _||_}
 use mathlib.Core.List.{List, [], _∷_}
 use mathlib.Core.Path.{_≡_}
 use Rattle.lists.specs.Lists.{Each, if_then_else_}
@@ -24,11 +24,11 @@ valueOf (Refused n) = negsuc 0
 -- The numbers that a call on sound tables may be refused with
 
 abbrev pub lastRefusal : ℕ
-lastRefusal = 14
+lastRefusal = 19
 
--- 12 is for a line of the bench
+-- 12 is for a line of the bench, 15 for tables that aren't sound, 16 for the status page
 abbrev pub elsewhere : ℕ → Bool
-elsewhere n = eqb n 12
+elsewhere n = eqb n 12 || eqb n 15 || eqb n 16
 
 abbrev pub mayRefuse : ℕ → Bool
 mayRefuse n = ltb 0 n && (leb n lastRefusal && not (elsewhere n))

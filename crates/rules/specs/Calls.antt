@@ -8,7 +8,8 @@ use mathlib.Core.List.{List, [], _∷_}
 use mathlib.Core.Option.{Option, none, some}
 use Rattle.lists.specs.Lists.{if_then_else_, filter, isEmpty, first}
 use Rattle.lists.specs.Numbers.{roundFrom}
-use Rattle.tables.specs.declared.State.the-variants.{Suspended}
+use Rattle.tables.specs.declared.State.{State}
+use Rattle.tables.specs.declared.State.the-variants.{Free, Current, Ready, Suspended, Waiting}
 use Rattle.tables.specs.declared.Process.{Process}
 use Rattle.tables.specs.declared.Semaphore.{Semaphore}
 use Rattle.tables.specs.declared.Tables.{Tables}
@@ -43,6 +44,14 @@ largest = pos 2147483647
 
 -- Checks that several calls share
 
+-- the number that names the state in which a process is found
+abbrev pub stateRefusal : State → ℕ
+stateRefusal Free = 7
+stateRefusal Current = 17
+stateRefusal Ready = 18
+stateRefusal Suspended = 9
+stateRefusal (Waiting s) = 19
+
 abbrev pub noSemaphore : ℤ → Check
 noSemaphore a = 1 when outside semaphoreLimit a
 
@@ -56,7 +65,11 @@ abbrev pub noProcess : ℤ → Check
 noProcess a = 6 when outside processLimit a
 
 abbrev pub notLive : Tables → ℤ → Check
-notLive t a = 7 when isFree (stateOf t (natAbs a))
+notLive t a = stateRefusal Free when isFree (stateOf t (natAbs a))
+
+-- its state isn't one that the call is for
+abbrev pub wrongState : (State → Bool) → Tables → ℤ → Check
+wrongState right t a = stateRefusal (stateOf t (natAbs a)) when not (right (stateOf t (natAbs a)))
 
 abbrev pub nullProcess : ℕ → Check
 nullProcess p = 10 when eqb p 0
@@ -131,8 +144,8 @@ checks t (MakeSemaphore a) = noCount a ∷ (4 when isEmpty (freeSemaphores t)) �
 checks t (Delete a) = noSemaphore a ∷ notUsed t a ∷ []
 checks t (Reset a b) = noCount b ∷ noSemaphore a ∷ notUsed t a ∷ []
 checks t (MakeProcess a) = (11 when ltZ a (pos 1) || ltZ (pos priorityLimit) a) ∷ (8 when isEmpty (freeSlots t)) ∷ []
-checks t (Resume a) = noProcess a ∷ notLive t a ∷ (9 when not (isSuspended (stateOf t (natAbs a)))) ∷ []
-checks t (Suspend a) = noProcess a ∷ nullProcess (natAbs a) ∷ notLive t a ∷ (9 when not (isReady (stateOf t (natAbs a)) || isCurrent (stateOf t (natAbs a)))) ∷ []
+checks t (Resume a) = noProcess a ∷ notLive t a ∷ wrongState isSuspended t a ∷ []
+checks t (Suspend a) = noProcess a ∷ nullProcess (natAbs a) ∷ notLive t a ∷ wrongState (λ st. isReady st || isCurrent st) t a ∷ []
 checks t (Kill a) = noProcess a ∷ nullProcess (natAbs a) ∷ notLive t a ∷ []
 checks t Yield = []
 checks t (Count a) = noSemaphore a ∷ notUsed t a ∷ []

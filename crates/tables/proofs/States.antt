@@ -7,7 +7,7 @@ use borrow.Author.Tests.{eqb-true}
 use Rattle.lists.proofs.Bools.{split}
 use Rattle.tables.specs.declared.State.{State}
 use Rattle.tables.specs.declared.State.the-variants.{Free, Current, Ready, Suspended, Waiting}
-use Rattle.tables.specs.States.{isFree, isCurrent, isReady, isSuspended, awaits, isThe, waitsOn}
+use Rattle.tables.specs.States.{isFree, isCurrent, isReady, isSuspended, isWaiting, awaits, isThe, waitsOn}
 
 pub is-free : (st : State) → isFree st ≡ true → st ≡ Free
 is-free Free h = refl
@@ -36,6 +36,13 @@ is-suspended Current h = absurd (false≢true h)
 is-suspended Ready h = absurd (false≢true h)
 is-suspended Suspended h = refl
 is-suspended (Waiting s) h = absurd (false≢true h)
+
+pub is-waiting : (st : State) → isWaiting st ≡ true → (s : ℕ) × (st ≡ Waiting s)
+is-waiting Free h = absurd (false≢true h)
+is-waiting Current h = absurd (false≢true h)
+is-waiting Ready h = absurd (false≢true h)
+is-waiting Suspended h = absurd (false≢true h)
+is-waiting (Waiting s) h = (s, refl)
 
 pub awaits-some : (st : State) (s : ℕ) → awaits st ≡ some s → st ≡ Waiting s
 awaits-some Free s h = absurd (Option·none-ne-some s h)

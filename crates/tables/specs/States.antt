@@ -34,6 +34,13 @@ isSuspended Ready = false
 isSuspended Suspended = true
 isSuspended (Waiting s) = false
 
+abbrev pub isWaiting : State → Bool
+isWaiting Free = false
+isWaiting Current = false
+isWaiting Ready = false
+isWaiting Suspended = false
+isWaiting (Waiting s) = true
+
 -- the semaphore that it waits on
 abbrev pub awaits : State → Option ℕ
 awaits Free = none

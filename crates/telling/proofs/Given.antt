@@ -16,22 +16,22 @@ use Rattle.lists.proofs.Bools.{not-true, not-false, split, either, below?}
 use Rattle.lists.proofs.Exactly.{Tests, tests-or, tests-not, tests-eqb, tests-ltZ, tests-leZ}
 use Rattle.lists.proofs.RoundLaws.{none-found, found-none}
 use Rattle.tables.specs.declared.State.{State}
-use Rattle.tables.specs.declared.State.the-variants.{Free}
+use Rattle.tables.specs.declared.State.the-variants.{Free, Current, Ready, Suspended, Waiting}
 use Rattle.tables.specs.declared.Tables.{Tables}
 use Rattle.tables.specs.Limits.{processLimit, semaphoreLimit, priorityLimit}
-use Rattle.tables.specs.States.{isFree, isCurrent, isReady, isSuspended}
+use Rattle.tables.specs.States.{isFree, isCurrent, isReady, isSuspended, isWaiting}
 use Rattle.tables.specs.Readers.{stateOf, isUsed, countOf, currentOf}
 use Rattle.tables.specs.Sound.{Sound}
 use Rattle.tables.specs.Test.{soundNow}
 use Rattle.tables.specs.Counts.{CountsFit}
-use Rattle.tables.proofs.States.{is-free, is-current, is-ready, is-suspended}
+use Rattle.tables.proofs.States.{is-free, is-current, is-ready, is-suspended, is-waiting}
 use Rattle.tables.proofs.TestLaws.{checked-sound, sound-checked}
 use Rattle.rules.specs.declared.Answer.the-variants.{Refused}
 use Rattle.rules.specs.declared.Outcome.{Outcome}
 use Rattle.rules.specs.Answers.{Check, _when_, Ranged, refused, unless}
-use Rattle.rules.specs.Calls.{Call, Wait, Signal, MakeSemaphore, Delete, Reset, MakeProcess, Resume, Suspend, Kill, Yield, Count, below0, outside, largest, noSemaphore, notUsed, noCount, noProcess, notLive, nullProcess, freeSemaphores, freeSlots, checks, deed, finish, step}
+use Rattle.rules.specs.Calls.{Call, Wait, Signal, MakeSemaphore, Delete, Reset, MakeProcess, Resume, Suspend, Kill, Yield, Count, below0, outside, largest, noSemaphore, notUsed, noCount, noProcess, stateRefusal, notLive, wrongState, nullProcess, freeSemaphores, freeSlots, checks, deed, finish, step}
 use Rattle.rules.specs.Enter.{Form, forms, formOf, isZero, spare, callOf, called, numbered, enter}
-use Rattle.telling.specs.Reasons.{Reason, Exactly, FirstOf, noSuchSemaphore, semaphoreFree, countBelow0, allUsed, countLargest, noSuchProcess, slotFree, allLive, notSuspended, notRunnable, process0, noSuchPriority, noSuchCall, argumentsOf, spareArgument, notSound, ownReasons, callReasons, numberedReasons, reasons}
+use Rattle.telling.specs.Reasons.{Reason, Exactly, FirstOf, noSuchSemaphore, semaphoreFree, countBelow0, allUsed, countLargest, noSuchProcess, slotFree, allLive, foundSuspended, process0, noSuchPriority, noSuchCall, argumentsOf, spareArgument, notSound, foundCurrent, foundReady, foundWaiting, ownReasons, callReasons, numberedReasons, reasons}
 use Rattle.rules.proofs.Numbers.{number-known, number-past}
 use Rattle.rules.proofs.Refusals.{finish-done, AllFrom, number-has, numbered-ranged}
 
@@ -86,13 +86,8 @@ given-8 {t} S =
     (λ e. e) in
     (refl, (λ e p b l f. true≢false (sym (ap isFree f) ∙ none-found free processLimit from k e p l), λ n. found-none free processLimit from k (live n)))
 
-pub given-9-resume : (t : Tables) (a : ℤ) → Exactly (9 when not (isSuspended (stateOf t (natAbs a)))) (notSuspended t a)
-given-9-resume t a = let st = stateOf t (natAbs a) in (refl, tests-not (isSuspended st) (is-suspended st, ap isSuspended))
-
-pub given-9-suspend : (t : Tables) (a : ℤ) → Exactly (9 when not (isReady (stateOf t (natAbs a)) || isCurrent (stateOf t (natAbs a)))) (notRunnable t a)
-given-9-suspend t a =
-    let st = stateOf t (natAbs a) in
-    (refl, tests-not (isReady st || isCurrent st) (tests-or (isReady st) (isCurrent st) (is-ready st, ap isReady) (is-current st, ap isCurrent)))
+pub given-9 : (t : Tables) (a : ℤ) → Exactly (9 when isSuspended (stateOf t (natAbs a))) (foundSuspended t a)
+given-9 t a = (refl, (is-suspended (stateOf t (natAbs a)), ap isSuspended))
 
 pub given-10 : (p : ℕ) → Exactly (nullProcess p) (process0 p)
 given-10 p = (refl, tests-eqb p 0)
@@ -132,6 +127,15 @@ module _ (a b : ℤ) where
   pub given-14 : (n : ℕ) (f : Form) → formOf n ≡ some f → Exactly (14 when spare f a b) (spareArgument n a b)
   given-14 n f e = (refl, number-has Spare spares n f e)
 
+pub given-17 : (t : Tables) (a : ℤ) → Exactly (17 when isCurrent (stateOf t (natAbs a))) (foundCurrent t a)
+given-17 t a = (refl, (is-current (stateOf t (natAbs a)), ap isCurrent))
+
+pub given-18 : (t : Tables) (a : ℤ) → Exactly (18 when isReady (stateOf t (natAbs a))) (foundReady t a)
+given-18 t a = (refl, (is-ready (stateOf t (natAbs a)), ap isReady))
+
+pub given-19 : (t : Tables) (a : ℤ) → Exactly (19 when isWaiting (stateOf t (natAbs a))) (foundWaiting t a)
+given-19 t a = (refl, (is-waiting (stateOf t (natAbs a)), λ h. ap isWaiting (h .1)))
+
 -- A call's checks are its reasons, in the same order
 
 abbrev AllExactly : List Check → List Reason → Type 0
@@ -140,18 +144,61 @@ AllExactly [] (r ∷ rs) = ⊥
 AllExactly (c ∷ cs) [] = ⊥
 AllExactly (c ∷ cs) (r ∷ rs) = Exactly c r × AllExactly cs rs
 
-checks-given : {t : Tables} → Sound t → CountsFit t → (c : Call) → AllExactly (checks t c) (ownReasons t c)
-checks-given {t} S F (Wait a) = (given-1 a, (given-2 t a, (given-10 (currentOf t), tt)))
-checks-given {t} S F (Signal a) = (given-1 a, (given-2 t a, (given-5 t a (F (natAbs a)), tt)))
-checks-given S F (MakeSemaphore a) = (given-3 a, (given-4 S, tt))
-checks-given {t} S F (Delete a) = (given-1 a, (given-2 t a, tt))
-checks-given {t} S F (Reset a b) = (given-3 b, (given-1 a, (given-2 t a, tt)))
-checks-given S F (MakeProcess a) = (given-11 a, (given-8 S, tt))
-checks-given {t} S F (Resume a) = (given-6 a, (given-7 t a, (given-9-resume t a, tt)))
-checks-given {t} S F (Suspend a) = (given-6 a, (given-10 (natAbs a), (given-7 t a, (given-9-suspend t a, tt))))
-checks-given {t} S F (Kill a) = (given-6 a, (given-10 (natAbs a), (given-7 t a, tt)))
-checks-given S F Yield = tt
-checks-given {t} S F (Count a) = (given-1 a, (given-2 t a, tt))
+-- or refuse as checks do that are: the check of a state is one for each state that the call refuses
+
+record Told (cs : List Check) (rs : List Reason) : Type 1 where
+  rows : List Check
+  exactly : AllExactly rows rs
+  alike : (refuse : ℕ → Outcome) (o : Outcome) → unless refuse cs o ≡ unless refuse rows o
+
+plainly : {cs : List Check} {rs : List Reason} → AllExactly cs rs → Told cs rs
+plainly {cs} g = record { rows = cs; exactly = g; alike = λ refuse o. refl }
+
+before : {c : Check} {r : Reason} {cs : List Check} {rs : List Reason} → Exactly c r → Told cs rs → Told (c ∷ cs) (r ∷ rs)
+before {c} g h = record { rows = c ∷ h .rows; exactly = (g, h .exactly); alike = λ refuse o. rw (h .alike refuse o) }
+
+abbrev resumeRows : State → List Check
+resumeRows st = (7 when isFree st) ∷ (17 when isCurrent st) ∷ (18 when isReady st) ∷ (19 when isWaiting st) ∷ []
+
+abbrev suspendRows : State → List Check
+suspendRows st = (7 when isFree st) ∷ (9 when isSuspended st) ∷ (19 when isWaiting st) ∷ []
+
+rows-alike : (refuse : ℕ → Outcome) (o : Outcome) (st : State)
+    → (unless refuse ((7 when isFree st) ∷ (stateRefusal st when not (isSuspended st)) ∷ []) o ≡ unless refuse (resumeRows st) o)
+    × (unless refuse ((7 when isFree st) ∷ (stateRefusal st when not (isReady st || isCurrent st)) ∷ []) o ≡ unless refuse (suspendRows st) o)
+rows-alike refuse o Free = (refl, refl)
+rows-alike refuse o Current = (refl, refl)
+rows-alike refuse o Ready = (refl, refl)
+rows-alike refuse o Suspended = (refl, refl)
+rows-alike refuse o (Waiting s) = (refl, refl)
+
+module _ (t : Tables) (a : ℤ) where
+  resume-told : Told (notLive t a ∷ wrongState isSuspended t a ∷ []) (slotFree t a ∷ foundCurrent t a ∷ foundReady t a ∷ foundWaiting t a ∷ [])
+  resume-told = record {
+    rows = resumeRows (stateOf t (natAbs a));
+    exactly = (given-7 t a, (given-17 t a, (given-18 t a, (given-19 t a, tt))));
+    alike = λ refuse o. rows-alike refuse o (stateOf t (natAbs a)) .0;
+  }
+
+  suspend-told : Told (notLive t a ∷ wrongState (λ st. isReady st || isCurrent st) t a ∷ []) (slotFree t a ∷ foundSuspended t a ∷ foundWaiting t a ∷ [])
+  suspend-told = record {
+    rows = suspendRows (stateOf t (natAbs a));
+    exactly = (given-7 t a, (given-9 t a, (given-19 t a, tt)));
+    alike = λ refuse o. rows-alike refuse o (stateOf t (natAbs a)) .1;
+  }
+
+checks-given : {t : Tables} → Sound t → CountsFit t → (c : Call) → Told (checks t c) (ownReasons t c)
+checks-given {t} S F (Wait a) = plainly (given-1 a, (given-2 t a, (given-10 (currentOf t), tt)))
+checks-given {t} S F (Signal a) = plainly (given-1 a, (given-2 t a, (given-5 t a (F (natAbs a)), tt)))
+checks-given S F (MakeSemaphore a) = plainly (given-3 a, (given-4 S, tt))
+checks-given {t} S F (Delete a) = plainly (given-1 a, (given-2 t a, tt))
+checks-given {t} S F (Reset a b) = plainly (given-3 b, (given-1 a, (given-2 t a, tt)))
+checks-given S F (MakeProcess a) = plainly (given-11 a, (given-8 S, tt))
+checks-given {t} S F (Resume a) = before (given-6 a) (resume-told t a)
+checks-given {t} S F (Suspend a) = before (given-6 a) (before (given-10 (natAbs a)) (suspend-told t a))
+checks-given {t} S F (Kill a) = plainly (given-6 a, (given-10 (natAbs a), (given-7 t a, tt)))
+checks-given S F Yield = plainly tt
+checks-given {t} S F (Count a) = plainly (given-1 a, (given-2 t a, tt))
 
 -- one check more in front is one reason more in front
 check-exactly : (t : Tables) (b : Bool) (m n : ℕ) (o : Outcome) {P Q : Type 0} → Tests b P → (o .answer ≡ Refused n) ↔ Q → ((if b then refused m t else o) .answer ≡ Refused n) ↔ (((m ≡ n) × P) ⊎ ((¬ P) × Q))
@@ -170,7 +217,9 @@ module _ {t : Tables} (S : Sound t) (F : CountsFit t) where
   -- a call is refused with the number of the first of its reasons that holds, and with no other
   pub step-exactly : (c : Call) (n : ℕ) → (step t c .answer ≡ Refused n) ↔ FirstOf (ownReasons t c) n
   unfolding step
-  step-exactly c n = rw (append-nil (ownReasons t c)) at (unless-exactly t (checks t c) (ownReasons t c) [] (finish (deed t c)) n (checks-given S F c) (finish-done (deed t c) n, λ w. absurd w))
+  step-exactly c n =
+      let g = checks-given S F c in
+      rw (g .alike (λ m. refused m t) (finish (deed t c)), ← append-nil (ownReasons t c)) (unless-exactly t (g .rows) (ownReasons t c) [] (finish (deed t c)) n (g .exactly) (finish-done (deed t c) n, λ w. absurd w))
 
   pub numbered-exactly : (m : ℕ) (a b : ℤ) (n : ℕ) → (numbered t m a b .answer ≡ Refused n) ↔ FirstOf (numberedReasons t m a b) n
   unfolding numbered

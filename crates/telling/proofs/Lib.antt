@@ -1,5 +1,6 @@
 pub mod Numbers
 pub mod Given
+pub mod Named
 pub mod Fields
 pub mod Seats
 pub mod Rescheduling

@@ -1,6 +1,6 @@
 -- The table of refusal numbers in the paper's words: when each is given, and in which order a call's are looked at.
 use Prim.Native.Nat.{ℕ, _≤_, _<_}
-use mathlib.Core.Bool.{true, false}
+use mathlib.Core.Bool.{Bool, true, false}
 use mathlib.Core.List.{List, [], _∷_}
 use mathlib.Core.Logic.{_≢_, _↔_, _⊎_}
 use mathlib.Core.Option.{Option, none, some}
@@ -9,9 +9,11 @@ use lib.Dec.{eqb}
 use lib.IntN.{ℤ, pos, natAbs}
 use lib.Signed.{_≤ℤ_, _<ℤ_}
 use Rattle.lists.specs.Lists.{if_then_else_}
-use Rattle.tables.specs.declared.State.the-variants.{Free, Current, Ready, Suspended}
+use Rattle.tables.specs.declared.State.{State}
+use Rattle.tables.specs.declared.State.the-variants.{Free, Current, Ready, Suspended, Waiting}
 use Rattle.tables.specs.declared.Tables.{Tables}
 use Rattle.tables.specs.Limits.{processLimit, semaphoreLimit, priorityLimit}
+use Rattle.tables.specs.States.{isFree, isCurrent, isReady, isSuspended, isWaiting}
 use Rattle.tables.specs.Readers.{stateOf, isUsed, countOf, currentOf}
 use Rattle.tables.specs.Sound.{Sound}
 use Rattle.rules.specs.Answers.{Check}
@@ -36,7 +38,7 @@ abbrev pub FirstOf : List Reason → ℕ → Type 0
 FirstOf [] n = ⊥
 FirstOf (r ∷ rs) n = ((r .number ≡ n) × r .holds) ⊎ ((¬ r .holds) × FirstOf rs n)
 
--- The table. 12 is for a line of the bench
+-- The table. 12 is for a line of the bench, 16 for the status page
 
 -- 1: semaphore number below 0 or above 119
 abbrev pub noSuchSemaphore : ℤ → Reason
@@ -70,13 +72,9 @@ slotFree t a = 7 given stateOf t (natAbs a) ≡ Free
 abbrev pub allLive : Tables → Reason
 allLive t = 8 given ((p : ℕ) → 1 ≤ p → p < processLimit → stateOf t p ≢ Free)
 
--- 9: resume: not suspended
-abbrev pub notSuspended : Tables → ℤ → Reason
-notSuspended t a = 9 given stateOf t (natAbs a) ≢ Suspended
-
--- suspend: neither ready nor current
-abbrev pub notRunnable : Tables → ℤ → Reason
-notRunnable t a = 9 given ¬ ((stateOf t (natAbs a) ≡ Ready) ⊎ (stateOf t (natAbs a) ≡ Current))
+-- 9: suspend of a suspended process
+abbrev pub foundSuspended : Tables → ℤ → Reason
+foundSuspended t a = 9 given stateOf t (natAbs a) ≡ Suspended
 
 -- 10: kill or suspend of process 0; any wait by it
 abbrev pub process0 : ℕ → Reason
@@ -102,6 +100,18 @@ spareArgument n a b = 14 given ((b ≢ pos 0) × (argumentsOf n < 2)) ⊎ ((a �
 abbrev pub notSound : Tables → Reason
 notSound t = 15 given ¬ Sound t
 
+-- 17: resume of the current one
+abbrev pub foundCurrent : Tables → ℤ → Reason
+foundCurrent t a = 17 given stateOf t (natAbs a) ≡ Current
+
+-- 18: resume of a ready one
+abbrev pub foundReady : Tables → ℤ → Reason
+foundReady t a = 18 given stateOf t (natAbs a) ≡ Ready
+
+-- 19: resume or suspend of a waiting one
+abbrev pub foundWaiting : Tables → ℤ → Reason
+foundWaiting t a = 19 given ((s : ℕ) × (stateOf t (natAbs a) ≡ Waiting s))
+
 -- The order
 
 -- a call's own
@@ -112,8 +122,8 @@ ownReasons t (MakeSemaphore a) = countBelow0 a ∷ allUsed t ∷ []
 ownReasons t (Delete a) = noSuchSemaphore a ∷ semaphoreFree t a ∷ []
 ownReasons t (Reset a b) = countBelow0 b ∷ noSuchSemaphore a ∷ semaphoreFree t a ∷ []
 ownReasons t (MakeProcess a) = noSuchPriority a ∷ allLive t ∷ []
-ownReasons t (Resume a) = noSuchProcess a ∷ slotFree t a ∷ notSuspended t a ∷ []
-ownReasons t (Suspend a) = noSuchProcess a ∷ process0 (natAbs a) ∷ slotFree t a ∷ notRunnable t a ∷ []
+ownReasons t (Resume a) = noSuchProcess a ∷ slotFree t a ∷ foundCurrent t a ∷ foundReady t a ∷ foundWaiting t a ∷ []
+ownReasons t (Suspend a) = noSuchProcess a ∷ process0 (natAbs a) ∷ slotFree t a ∷ foundSuspended t a ∷ foundWaiting t a ∷ []
 ownReasons t (Kill a) = noSuchProcess a ∷ process0 (natAbs a) ∷ slotFree t a ∷ []
 ownReasons t Yield = []
 ownReasons t (Count a) = noSuchSemaphore a ∷ semaphoreFree t a ∷ []
@@ -130,3 +140,13 @@ numberedReasons t n a b = noSuchCall n ∷ spareArgument n a b ∷ callReasons t
 -- 15 stands before them
 abbrev pub reasons : Tables → ℕ → ℤ → ℤ → List Reason
 reasons t n a b = notSound t ∷ numberedReasons t n a b
+
+-- What the number of a refused resume or suspend says of the state in which the process was found; the other numbers say nothing of it
+abbrev pub says : ℕ → State → Bool
+says n st =
+    if eqb n 7 then isFree st
+    else if eqb n 9 then isSuspended st
+    else if eqb n 17 then isCurrent st
+    else if eqb n 18 then isReady st
+    else if eqb n 19 then isWaiting st
+    else true

@@ -23,7 +23,7 @@ returns-3 : tie.Need-returns-3
 returns-3 c =
     let at-index-below = c .before .before .before .before .before .before .before .before in
     let at = passed _ _ _ _ (at-index-below .before .before .fits .a) (at-index-below .index-below .ensures) (c .before .before .before .before .before .before .index .given .1) in
-    refused-by (at-index-below .before .before .args .a) _ at _ _ (c .before .before .process .ensures) (Kill (at-index-below .before .before .args .a)) (killed _) (kill-by (at-index-below .before .before .args .a) _ at (c .before .before .before .before .if1 .left)) Free 7 (λ t. refl) (c .enum-told2 .given .1)
+    refused-by (at-index-below .before .before .args .a) _ at _ _ (c .before .before .process .ensures) (Kill (at-index-below .before .before .args .a)) (killed _) (kill-by (at-index-below .before .before .args .a) _ at (c .before .before .before .before .if1 .left)) Free (λ t. refl) (c .enum-told2 .given .1)
 
 returns-4 : tie.Need-returns-4
 returns-4 c =

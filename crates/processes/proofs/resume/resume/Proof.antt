@@ -19,19 +19,19 @@ returns-2 : tie.Need-returns-2
 returns-2 c =
     let at-index-below = c .before .before .before .before .before .before .before in
     let at = passed _ _ _ _ (at-index-below .before .before .fits .a) (at-index-below .index-below .ensures) (c .before .before .before .before .before .index .given .1) in
-    refused-by (at-index-below .before .before .args .a) _ at _ _ (c .before .before .process .ensures) (Resume (at-index-below .before .before .args .a)) (resumed _) (resume-by (at-index-below .before .before .args .a) _ at) Free 7 (λ t. refl) (c .enum-told2 .given .1)
+    refused-by (at-index-below .before .before .args .a) _ at _ _ (c .before .before .process .ensures) (Resume (at-index-below .before .before .args .a)) (resumed _) (resume-by (at-index-below .before .before .args .a) _ at) Free (λ t. refl) (c .enum-told2 .given .1)
 
 returns-3 : tie.Need-returns-3
 returns-3 c =
     let at-index-below = c .before .before .before .before .before .before .before in
     let at = passed _ _ _ _ (at-index-below .before .before .fits .a) (at-index-below .index-below .ensures) (c .before .before .before .before .before .index .given .1) in
-    refused-by (at-index-below .before .before .args .a) _ at _ _ (c .before .before .process .ensures) (Resume (at-index-below .before .before .args .a)) (resumed _) (resume-by (at-index-below .before .before .args .a) _ at) Current 9 (λ t. refl) (c .enum-told3 .given .1)
+    refused-by (at-index-below .before .before .args .a) _ at _ _ (c .before .before .process .ensures) (Resume (at-index-below .before .before .args .a)) (resumed _) (resume-by (at-index-below .before .before .args .a) _ at) Current (λ t. refl) (c .enum-told3 .given .1)
 
 returns-4 : tie.Need-returns-4
 returns-4 c =
     let at-index-below = c .before .before .before .before .before .before .before in
     let at = passed _ _ _ _ (at-index-below .before .before .fits .a) (at-index-below .index-below .ensures) (c .before .before .before .before .before .index .given .1) in
-    refused-by (at-index-below .before .before .args .a) _ at _ _ (c .before .before .process .ensures) (Resume (at-index-below .before .before .args .a)) (resumed _) (resume-by (at-index-below .before .before .args .a) _ at) Ready 9 (λ t. refl) (c .enum-told4 .given .1)
+    refused-by (at-index-below .before .before .args .a) _ at _ _ (c .before .before .process .ensures) (Resume (at-index-below .before .before .args .a)) (resumed _) (resume-by (at-index-below .before .before .args .a) _ at) Ready (λ t. refl) (c .enum-told4 .given .1)
 
 returns-5 : tie.Need-returns-5
 returns-5 c =
@@ -44,7 +44,7 @@ returns-6 : tie.Need-returns-6
 returns-6 c =
     let at-index-below = c .before .before .before .before .before .before .before in
     let at = passed _ _ _ _ (at-index-below .before .before .fits .a) (at-index-below .index-below .ensures) (c .before .before .before .before .before .index .given .1) in
-    refused-by (at-index-below .before .before .args .a) _ at _ _ (c .before .before .process .ensures) (Resume (at-index-below .before .before .args .a)) (resumed _) (resume-by (at-index-below .before .before .args .a) _ at) _ 9 (λ t. refl) (c .enum-told6 .given .1)
+    refused-by (at-index-below .before .before .args .a) _ at _ _ (c .before .before .process .ensures) (Resume (at-index-below .before .before .args .a)) (resumed _) (resume-by (at-index-below .before .before .args .a) _ at) _ (λ t. refl) (c .enum-told6 .given .1)
 
 pub resume-spec : {M : Type 1} → statement M
 resume-spec =

@@ -25,7 +25,7 @@ returns-3 : tie.Need-returns-3
 returns-3 c =
     let at-index-below = c .before .before .before .before .before .before .before .before in
     let at = passed _ _ _ _ (at-index-below .before .before .fits .a) (at-index-below .index-below .ensures) (c .before .before .before .before .before .before .index .given .1) in
-    refused-by (at-index-below .before .before .args .a) _ at _ _ (c .before .before .process .ensures) (Suspend (at-index-below .before .before .args .a)) (suspended _) (suspend-by (at-index-below .before .before .args .a) _ at (c .before .before .before .before .if1 .left)) Free 7 (λ t. refl) (c .enum-told2 .given .1)
+    refused-by (at-index-below .before .before .args .a) _ at _ _ (c .before .before .process .ensures) (Suspend (at-index-below .before .before .args .a)) (suspended _) (suspend-by (at-index-below .before .before .args .a) _ at (c .before .before .before .before .if1 .left)) Free (λ t. refl) (c .enum-told2 .given .1)
 
 returns-4 : tie.Need-returns-4
 returns-4 c =
@@ -45,13 +45,13 @@ returns-6 : tie.Need-returns-6
 returns-6 c =
     let at-index-below = c .before .before .before .before .before .before .before .before in
     let at = passed _ _ _ _ (at-index-below .before .before .fits .a) (at-index-below .index-below .ensures) (c .before .before .before .before .before .before .index .given .1) in
-    refused-by (at-index-below .before .before .args .a) _ at _ _ (c .before .before .process .ensures) (Suspend (at-index-below .before .before .args .a)) (suspended _) (suspend-by (at-index-below .before .before .args .a) _ at (c .before .before .before .before .if1 .left)) Suspended 9 (λ t. refl) (c .enum-told5 .given .1)
+    refused-by (at-index-below .before .before .args .a) _ at _ _ (c .before .before .process .ensures) (Suspend (at-index-below .before .before .args .a)) (suspended _) (suspend-by (at-index-below .before .before .args .a) _ at (c .before .before .before .before .if1 .left)) Suspended (λ t. refl) (c .enum-told5 .given .1)
 
 returns-7 : tie.Need-returns-7
 returns-7 c =
     let at-index-below = c .before .before .before .before .before .before .before .before in
     let at = passed _ _ _ _ (at-index-below .before .before .fits .a) (at-index-below .index-below .ensures) (c .before .before .before .before .before .before .index .given .1) in
-    refused-by (at-index-below .before .before .args .a) _ at _ _ (c .before .before .process .ensures) (Suspend (at-index-below .before .before .args .a)) (suspended _) (suspend-by (at-index-below .before .before .args .a) _ at (c .before .before .before .before .if1 .left)) _ 9 (λ t. refl) (c .enum-told6 .given .1)
+    refused-by (at-index-below .before .before .args .a) _ at _ _ (c .before .before .process .ensures) (Suspend (at-index-below .before .before .args .a)) (suspended _) (suspend-by (at-index-below .before .before .args .a) _ at (c .before .before .before .before .if1 .left)) _ (λ t. refl) (c .enum-told6 .given .1)
 
 pub suspend-spec : {M : Type 1} → statement M
 suspend-spec =
