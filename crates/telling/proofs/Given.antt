@@ -144,17 +144,17 @@ AllExactly [] (r ∷ rs) = ⊥
 AllExactly (c ∷ cs) [] = ⊥
 AllExactly (c ∷ cs) (r ∷ rs) = Exactly c r × AllExactly cs rs
 
--- or refuse as checks do that are: the check of a state is one for each state that the call refuses
+-- The check of a state has its number by the state: it refuses as one check for each state would
 
-record Told (cs : List Check) (rs : List Reason) : Type 1 where
+record RowByRow (cs : List Check) (rs : List Reason) : Type 1 where
   rows : List Check
   exactly : AllExactly rows rs
   alike : (refuse : ℕ → Outcome) (o : Outcome) → unless refuse cs o ≡ unless refuse rows o
 
-plainly : {cs : List Check} {rs : List Reason} → AllExactly cs rs → Told cs rs
+plainly : {cs : List Check} {rs : List Reason} → AllExactly cs rs → RowByRow cs rs
 plainly {cs} g = record { rows = cs; exactly = g; alike = λ refuse o. refl }
 
-before : {c : Check} {r : Reason} {cs : List Check} {rs : List Reason} → Exactly c r → Told cs rs → Told (c ∷ cs) (r ∷ rs)
+before : {c : Check} {r : Reason} {cs : List Check} {rs : List Reason} → Exactly c r → RowByRow cs rs → RowByRow (c ∷ cs) (r ∷ rs)
 before {c} g h = record { rows = c ∷ h .rows; exactly = (g, h .exactly); alike = λ refuse o. rw (h .alike refuse o) }
 
 abbrev resumeRows : State → List Check
@@ -173,29 +173,29 @@ rows-alike refuse o Suspended = (refl, refl)
 rows-alike refuse o (Waiting s) = (refl, refl)
 
 module _ (t : Tables) (a : ℤ) where
-  resume-told : Told (notLive t a ∷ wrongState isSuspended t a ∷ []) (slotFree t a ∷ foundCurrent t a ∷ foundReady t a ∷ foundWaiting t a ∷ [])
-  resume-told = record {
+  resume-rows : RowByRow (notLive t a ∷ wrongState isSuspended t a ∷ []) (slotFree t a ∷ foundCurrent t a ∷ foundReady t a ∷ foundWaiting t a ∷ [])
+  resume-rows = record {
     rows = resumeRows (stateOf t (natAbs a));
     exactly = (given-7 t a, (given-17 t a, (given-18 t a, (given-19 t a, tt))));
     alike = λ refuse o. rows-alike refuse o (stateOf t (natAbs a)) .0;
   }
 
-  suspend-told : Told (notLive t a ∷ wrongState (λ st. isReady st || isCurrent st) t a ∷ []) (slotFree t a ∷ foundSuspended t a ∷ foundWaiting t a ∷ [])
-  suspend-told = record {
+  suspend-rows : RowByRow (notLive t a ∷ wrongState (λ st. isReady st || isCurrent st) t a ∷ []) (slotFree t a ∷ foundSuspended t a ∷ foundWaiting t a ∷ [])
+  suspend-rows = record {
     rows = suspendRows (stateOf t (natAbs a));
     exactly = (given-7 t a, (given-9 t a, (given-19 t a, tt)));
     alike = λ refuse o. rows-alike refuse o (stateOf t (natAbs a)) .1;
   }
 
-checks-given : {t : Tables} → Sound t → CountsFit t → (c : Call) → Told (checks t c) (ownReasons t c)
+checks-given : {t : Tables} → Sound t → CountsFit t → (c : Call) → RowByRow (checks t c) (ownReasons t c)
 checks-given {t} S F (Wait a) = plainly (given-1 a, (given-2 t a, (given-10 (currentOf t), tt)))
 checks-given {t} S F (Signal a) = plainly (given-1 a, (given-2 t a, (given-5 t a (F (natAbs a)), tt)))
 checks-given S F (MakeSemaphore a) = plainly (given-3 a, (given-4 S, tt))
 checks-given {t} S F (Delete a) = plainly (given-1 a, (given-2 t a, tt))
 checks-given {t} S F (Reset a b) = plainly (given-3 b, (given-1 a, (given-2 t a, tt)))
 checks-given S F (MakeProcess a) = plainly (given-11 a, (given-8 S, tt))
-checks-given {t} S F (Resume a) = before (given-6 a) (resume-told t a)
-checks-given {t} S F (Suspend a) = before (given-6 a) (before (given-10 (natAbs a)) (suspend-told t a))
+checks-given {t} S F (Resume a) = before (given-6 a) (resume-rows t a)
+checks-given {t} S F (Suspend a) = before (given-6 a) (before (given-10 (natAbs a)) (suspend-rows t a))
 checks-given {t} S F (Kill a) = plainly (given-6 a, (given-10 (natAbs a), (given-7 t a, tt)))
 checks-given S F Yield = plainly tt
 checks-given {t} S F (Count a) = plainly (given-1 a, (given-2 t a, tt))
