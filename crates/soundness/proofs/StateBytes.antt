@@ -10,7 +10,6 @@ use borrow.Author.Tests.{eq-eqb, lt-ltb, ne-eqb}
 use Rattle.layout.specs.Bytes.{byteState, fromBytes, waitingFrom, wellFormed}
 use Rattle.layout.specs.Offsets.{statesAt}
 use Rattle.layout.specs.Stands.{Named}
-use Rattle.lists.specs.Lists.{if_then_else_}
 use Rattle.lists.specs.Numbers.{all}
 use Rattle.tables.specs.Limits.{processLimit, semaphoreLimit}
 use Rattle.tables.specs.Readers.{stateOf}
