@@ -1,5 +1,5 @@
 -- Demand 1, of every result that the contract of a call allows. Assumes nothing.
-use Prim.Native.Nat.{_<_, ℕ}
+use Prim.Native.Nat.{ℕ}
 use native.Mathlib.Omega.{arith}
 use mathlib.Core.Bool.{false, true≢false}
 use mathlib.Core.List.{List}

@@ -44,14 +44,6 @@ largest = pos 2147483647
 
 -- Checks that several calls share
 
--- the number that names the state in which a process is found
-abbrev pub stateRefusal : State → ℕ
-stateRefusal Free = 7
-stateRefusal Current = 17
-stateRefusal Ready = 18
-stateRefusal Suspended = 9
-stateRefusal (Waiting s) = 19
-
 abbrev pub noSemaphore : ℤ → Check
 noSemaphore a = 1 when outside semaphoreLimit a
 
@@ -64,12 +56,20 @@ noCount a = 3 when below0 a
 abbrev pub noProcess : ℤ → Check
 noProcess a = 6 when outside processLimit a
 
+-- the number that names the state in which a process is found
+abbrev pub stateRefusal : State → ℕ
+stateRefusal Free = 7
+stateRefusal Current = 17
+stateRefusal Ready = 18
+stateRefusal Suspended = 9
+stateRefusal (Waiting s) = 19
+
 abbrev pub notLive : Tables → ℤ → Check
 notLive t a = stateRefusal Free when isFree (stateOf t (natAbs a))
 
 -- its state isn't one that the call is for
 abbrev pub wrongState : (State → Bool) → Tables → ℤ → Check
-wrongState right t a = stateRefusal (stateOf t (natAbs a)) when not (right (stateOf t (natAbs a)))
+wrongState right t a = let st : State = stateOf t (natAbs a) in stateRefusal st when not (right st)
 
 abbrev pub nullProcess : ℕ → Check
 nullProcess p = 10 when eqb p 0

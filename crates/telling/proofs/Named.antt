@@ -11,7 +11,7 @@ use Rattle.tables.specs.declared.State.the-variants.{Free, Current, Ready, Susp
 use Rattle.tables.specs.declared.Tables.{Tables}
 use Rattle.tables.specs.Readers.{stateOf}
 use Rattle.rules.specs.declared.Answer.the-variants.{Refused}
-use Rattle.rules.specs.Calls.{Resume, Suspend, checks, stateRefusal}
+use Rattle.rules.specs.Calls.{Call, Resume, Suspend, checks, stateRefusal}
 use Rattle.rules.specs.Enter.{Form, first, callOf, formOf, numbered}
 use Rattle.rules.proofs.Refusals.{numbered-number}
 use Rattle.telling.specs.Reasons.{says}
@@ -24,20 +24,24 @@ state-says Suspended = refl
 state-says (Waiting s) = refl
 
 module _ (t : Tables) (a : ℤ) where
-  abbrev st : State
-  st = stateOf t (natAbs a)
+  abbrev found : State
+  found = stateOf t (natAbs a)
 
-  resume-says : Each (λ c. c .holds ≡ true → says (c .number) st ≡ true) (checks t (Resume a))
-  resume-says = (λ h. refl, (λ h. h, (λ h. state-says st, tt)))
+  -- what each check that holds says is so
+  abbrev SayTrue : Call → Type 0
+  SayTrue c = Each (λ k. k .holds ≡ true → says (k .number) found ≡ true) (checks t c)
 
-  suspend-says : Each (λ c. c .holds ≡ true → says (c .number) st ≡ true) (checks t (Suspend a))
-  suspend-says = (λ h. refl, (λ h. refl, (λ h. h, (λ h. state-says st, tt))))
+  resume-says : SayTrue (Resume a)
+  resume-says = (λ h. refl, (λ h. h, (λ h. state-says found, tt)))
+
+  suspend-says : SayTrue (Suspend a)
+  suspend-says = (λ h. refl, (λ h. refl, (λ h. h, (λ h. state-says found, tt))))
 
   -- resume is call 07, suspend call 08
-  pub state-named : (n : ℕ) (b : ℤ) (m : ℕ) → (n ≡ 7) ⊎ (n ≡ 8) → numbered t n a b .answer ≡ Refused m → says m st ≡ true
+  pub state-named : (n : ℕ) (b : ℤ) (m : ℕ) → (n ≡ 7) ⊎ (n ≡ 8) → numbered t n a b .answer ≡ Refused m → says m found ≡ true
   state-named n b m = ⊎-elim (named 7 (first Resume) refl resume-says) (named 8 (first Suspend) refl suspend-says)
     where
-      named : (i : ℕ) (f : Form) → formOf i ≡ some f → Each (λ c. c .holds ≡ true → says (c .number) st ≡ true) (checks t (callOf f a b)) → n ≡ i → numbered t n a b .answer ≡ Refused m → says m st ≡ true
-      named i f k own z =
-          numbered-number t (λ j. says j st ≡ true) n a b m refl refl
-          (λ g e. subst (λ (h : Form). Each (λ c. c .holds ≡ true → says (c .number) st ≡ true) (checks t (callOf h a b))) (Option·some-injective f g (sym k ∙ ap formOf (sym z) ∙ e)) own)
+      named : (i : ℕ) (f : Form) → formOf i ≡ some f → SayTrue (callOf f a b) → n ≡ i → numbered t n a b .answer ≡ Refused m → says m found ≡ true
+      named i f k true-of z =
+          numbered-number t (λ j. says j found ≡ true) n a b m refl refl
+          (λ g e. subst (λ (h : Form). SayTrue (callOf h a b)) (Option·some-injective f g (sym k ∙ ap formOf (sym z) ∙ e)) true-of)

@@ -1,6 +1,6 @@
 -- The table of refusal numbers in the paper's words: when each is given, and in which order a call's are looked at.
 use Prim.Native.Nat.{ℕ, _≤_, _<_}
-use mathlib.Core.Bool.{Bool, true, false}
+use mathlib.Core.Bool.{Bool, true, false, _||_}
 use mathlib.Core.List.{List, [], _∷_}
 use mathlib.Core.Logic.{_≢_, _↔_, _⊎_}
 use mathlib.Core.Option.{Option, none, some}
@@ -141,7 +141,8 @@ numberedReasons t n a b = noSuchCall n ∷ spareArgument n a b ∷ callReasons t
 abbrev pub reasons : Tables → ℕ → ℤ → ℤ → List Reason
 reasons t n a b = notSound t ∷ numberedReasons t n a b
 
--- What the number of a refused resume or suspend says of the state in which the process was found; the other numbers say nothing of it
+-- What the number of a resume or a suspend says of the state in which the process was found. 0 is no refusal; 15, 13, 14, 6 and 10 stand
+-- before the state is looked at; there is no other
 abbrev pub says : ℕ → State → Bool
 says n st =
     if eqb n 7 then isFree st
@@ -149,4 +150,4 @@ says n st =
     else if eqb n 17 then isCurrent st
     else if eqb n 18 then isReady st
     else if eqb n 19 then isWaiting st
-    else true
+    else eqb n 0 || eqb n 15 || eqb n 13 || eqb n 14 || eqb n 6 || eqb n 10
