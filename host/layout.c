@@ -1,5 +1,5 @@
 /* Prints layout.h as constants of Rust: where each field begins, how many bytes
-   there are, the values of a state byte, the same of a row, the last call. */
+   there are, the values of a state byte, the same of a row, the last call, the last refusal. */
 #include <ctype.h>
 #include <stddef.h>
 #include <stdio.h>
@@ -29,6 +29,7 @@ int main(void)
     BYTE(SUSPENDED);
     BYTE(WAITING);
     BYTE(LAST_CALL);
+    BYTE(LAST_REFUSAL);
     ROW_FIELDS(ROW_OFFSET)
     constant("row_length", "usize", sizeof(struct cottonsedge_row));
     ROW_STATE(CURRENT);

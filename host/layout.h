@@ -1,7 +1,8 @@
 /*
  * The lent bytes as they lie (docs/LAYOUT.md says what they mean), the fields of
- * a row of the status page, and the last call. Every program here takes them from
- * this file: those in C as it stands, those in Rust as layout.c prints it.
+ * a row of the status page, the last call and the last refusal. Every program here
+ * takes them from this file: those in C as it stands, those in Rust as layout.c
+ * prints it.
  */
 #ifndef LAYOUT_H
 #define LAYOUT_H
@@ -11,7 +12,8 @@
 enum {
     P = COTTONSEDGE_PROCESSES,
     S = COTTONSEDGE_SEMAPHORES,
-    LAST_CALL = COTTONSEDGE_COUNT
+    LAST_CALL = COTTONSEDGE_COUNT,
+    LAST_REFUSAL = COTTONSEDGE_FOUND_WAITING
 };
 
 /* The fields in their order, each with how many bytes it has. */

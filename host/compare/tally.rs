@@ -2,13 +2,13 @@
 
 use crate::marks::Marks;
 use crate::page_marks::PageMarks;
-use second::layout::LAST_CALL;
+use second::layout::{LAST_CALL, LAST_REFUSAL};
 
 /// A row for each call; unknown ones stand in row 0.
 const ROWS: usize = LAST_CALL as usize + 1;
 
 /// A column for each refusal, 0 for none; a call is never refused with 16.
-pub const NUMBERS: usize = 20;
+pub const NUMBERS: usize = LAST_REFUSAL as usize + 1;
 
 #[derive(Default)]
 pub struct Tally {
