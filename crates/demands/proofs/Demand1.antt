@@ -21,9 +21,9 @@ use Rattle.cottonsedge.specs.Entries.{answerOf, bytesAfter}
 use Rattle.cottonsedge.specs.Fields.{refusalField}
 use Rattle.layout.proofs.Image.{bytes-back, stands-read}
 use Rattle.lists.proofs.Bools.{split}
-use Rattle.rules.proofs.Refusals.{numbered-ranged, numbered-refused, ranged-last, ranged-not}
+use Rattle.rules.proofs.Refusals.{numbered-ranged, numbered-refused, ranged-last}
 use Rattle.soundness.proofs.GoodBytes.{good-formed, good-sound}
-use Rattle.cottonsedge.proofs.Calls.{call-bytes, call-packed, call-process, call-refusal, call-runs, call-value, value-fits}
+use Rattle.cottonsedge.proofs.Calls.{call-answer, call-bytes, call-packed, call-process, call-refusal, call-runs, call-value, value-fits}
 use Rattle.cottonsedge.proofs.Entry.{refused-answer, refused-bytes}
 use Rattle.cottonsedge.proofs.FieldLaws.{packed-small}
 use Rattle.cottonsedge.proofs.Standing.{sound-good}
@@ -62,9 +62,7 @@ module _ {t : Tables} (S : Sound t) (F : CountsFit t) (q : Request) (k : Asked q
         refused = rw (refusal, call-value S F n a b fa fb, call-bytes S F n a b) (λ h. let w = nothing-done r refl h in (w .0, ap toBytes (w .1)));
         done = λ h. g;
         unsound = λ h. absurd (true≢false (sym g ∙ h));
-        sound = λ h. rw (refusal, call-process S F n a b fa fb) (λ e. omega (arith, ranged-not r ranged 15 refl e), call-runs S F n a b);
-        never12 = rw refusal (λ e. omega (arith, ranged-not r ranged 12 refl e));
-        never16 = rw refusal (λ e. omega (arith, ranged-not r ranged 16 refl e));
+        sound = λ h. rw (call-answer S F n a b fa fb, call-process S F n a b fa fb) (ranged, call-runs S F n a b);
       }
 
 -- Others
@@ -78,8 +76,6 @@ unsound-demand1 bs q byte g =
       done = λ h. absurd (omega arith);
       unsound = λ h. (refl, refl);
       sound = λ h. absurd (true≢false (sym h ∙ g));
-      never12 = λ h. omega arith;
-      never16 = λ h. omega arith;
     }
 
 exact-demand1 : (bs : List ℕ) (q : Request) → Bytes bs → Asked q → Demand1 bs (exact bs q)

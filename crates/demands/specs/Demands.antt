@@ -9,9 +9,10 @@ use Rattle.tables.specs.Limits.{processLimit}
 use Rattle.tables.specs.Readers.{nobody}
 use Rattle.soundness.specs.Good.{good}
 use Rattle.layout.specs.Bytes.{fromBytes}
+use Rattle.rules.specs.Answers.{Ranged}
 use Rattle.telling.specs.Reasons.{Reason, _given_, numberedReasons}
 use Rattle.promises.specs.Record.{Request, ArgumentsFit}
-use Rattle.cottonsedge.specs.Fields.{answerEnd, refusalField, valueField, processField}
+use Rattle.cottonsedge.specs.Fields.{answerEnd, refusalField, valueField, processField, unpacked}
 use Rattle.cottonsedge.specs.Entries.{Called}
 
 -- what can be asked: a call number of one byte, and two signed numbers of 32 bits
@@ -39,11 +40,8 @@ pub record Demand1 (bs : List ℕ) (x : Result) : Type 0 where
   pub done : refusalField (x .answer) ≡ 0 → good bs ≡ true
   -- others are answered 15, and the process is told as 255
   pub unsound : good bs ≡ false → (refusalField (x .answer) ≡ 15) × (processField (x .answer) ≡ nobody)
-  -- sound ones never are, and a process is told
-  pub sound : good bs ≡ true → (refusalField (x .answer) ≢ 15) × (processField (x .answer) < processLimit)
-  -- 12 is the bench's alone, 16 the status page's
-  pub never12 : refusalField (x .answer) ≢ 12
-  pub never16 : refusalField (x .answer) ≢ 16
+  -- sound ones are done, or refused with a number that is a call's: never 12, 15 or 16; and a process is told
+  pub sound : good bs ≡ true → Ranged (unpacked (x .answer)) × (processField (x .answer) < processLimit)
 
 -- when each refusal number is given: the first of these reasons that holds gives its own
 

@@ -5,7 +5,7 @@ use mathlib.Core.Bool.{Bool, _&&_, false, not, true, true≢false}
 use mathlib.Core.List.{List, [], _∷_}
 use mathlib.Core.Logic.{_≢_}
 use mathlib.Core.Option.{Option, none, some, Option·none-ne-some, Option·some-injective}
-use mathlib.Core.Path.{_∙_, _≡_, ap, refl, subst, sym}
+use mathlib.Core.Path.{_∙_, _≡_, refl, subst, sym}
 use lib.Dec.{leb, ltb}
 use lib.IntN.{ℤ, natAbs}
 use borrow.Author.Tests.{eq-eqb, leb-true}
@@ -137,8 +137,3 @@ numbered-ranged t n a b = go (numbered t n a b .answer) refl
 pub ranged-last : (r : Answer) → Ranged r → numberOf r ≤ lastRefusal
 ranged-last (Done v) h = omega arith
 ranged-last (Refused n) h = leb-true n lastRefusal (both (leb n lastRefusal) (not (elsewhere n)) (both (ltb 0 n) (leb n lastRefusal && not (elsewhere n)) h .1) .0)
-
--- and none that is given elsewhere
-pub ranged-not : (r : Answer) → Ranged r → (n : ℕ) → mayRefuse n ≡ false → numberOf r ≡ n → n ≡ 0
-ranged-not (Done v) h n out e = sym e
-ranged-not (Refused m) h n out e = absurd (true≢false (sym h ∙ ap mayRefuse e ∙ out))

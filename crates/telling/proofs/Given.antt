@@ -28,7 +28,7 @@ use Rattle.tables.proofs.States.{is-free, is-current, is-ready, is-suspended, i
 use Rattle.tables.proofs.TestLaws.{checked-sound, sound-checked}
 use Rattle.rules.specs.declared.Answer.the-variants.{Refused}
 use Rattle.rules.specs.declared.Outcome.{Outcome}
-use Rattle.rules.specs.Answers.{Check, _when_, Ranged, refused, unless}
+use Rattle.rules.specs.Answers.{Check, _when_, Ranged, mayRefuse, refused, unless}
 use Rattle.rules.specs.Calls.{Call, Wait, Signal, MakeSemaphore, Delete, Reset, MakeProcess, Resume, Suspend, Kill, Yield, Count, below0, outside, largest, noSemaphore, notUsed, noCount, noProcess, stateRefusal, notLive, wrongState, nullProcess, freeSemaphores, freeSlots, checks, deed, finish, step}
 use Rattle.rules.specs.Enter.{Form, forms, formOf, isZero, spare, callOf, called, numbered, enter}
 use Rattle.telling.specs.Reasons.{Reason, Exactly, FirstOf, noSuchSemaphore, semaphoreFree, countBelow0, allUsed, countLargest, noSuchProcess, slotFree, allLive, foundSuspended, process0, noSuchPriority, noSuchCall, argumentsOf, spareArgument, notSound, foundCurrent, foundReady, foundWaiting, ownReasons, callReasons, numberedReasons, reasons}
@@ -246,7 +246,7 @@ given-exactly t F m a b n =
     (λ e. let S = checked-sound e in rw e (check-exactly t false 15 n (numbered t m a b) (λ k. absurd (true≢false (sym k)), λ k. absurd (k S)) (numbered-exactly S F m a b n)))
     (λ e. let k : ¬ Sound t = λ S. true≢false (sym (sound-checked S) ∙ e) in rw e (λ r. inl (cc, k), ⊎-elim (λ w. ap Refused (w .0)) (λ w. absurd (w .0 k))))
 
--- 12 is for a line of the bench, and no call gives it
-pub never-12 : (t : Tables) (m : ℕ) (a b : ℤ) → enter t m a b .outcome .answer ≡ Refused 12 → ⊥
+-- 15 or a number that is a call's, and so neither 12, a line's, nor 16, the status page's
+pub enter-ranged : (t : Tables) (m : ℕ) (a b : ℤ) (n : ℕ) → enter t m a b .outcome .answer ≡ Refused n → (n ≡ 15) ⊎ (mayRefuse n ≡ true)
 unfolding enter
-never-12 t m a b = split (soundNow t) (λ e. rw e (λ r. true≢false (sym (subst Ranged r (numbered-ranged t m a b))))) (λ e. rw e (λ r. let k : _≡_ {A = ℕ} 15 12 = cc in omega arith))
+enter-ranged t m a b n = split (soundNow t) (λ e. rw e (λ r. inr (subst Ranged r (numbered-ranged t m a b)))) (λ e. rw e (λ r. inl (let k : _≡_ {A = ℕ} n 15 = cc in k)))
