@@ -33,6 +33,7 @@ elsewhere n = eqb n 12 || eqb n 15 || eqb n 16
 abbrev pub mayRefuse : ℕ → Bool
 mayRefuse n = ltb 0 n && (leb n lastRefusal && not (elsewhere n))
 
+-- an answer that is no refusal, or one with such a number
 abbrev pub Ranged : Answer → Type 0
 Ranged (Done v) = Unit
 Ranged (Refused n) = mayRefuse n ≡ true

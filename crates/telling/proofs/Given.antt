@@ -144,58 +144,58 @@ AllExactly [] (r ∷ rs) = ⊥
 AllExactly (c ∷ cs) [] = ⊥
 AllExactly (c ∷ cs) (r ∷ rs) = Exactly c r × AllExactly cs rs
 
--- The check of a state has its number by the state: it refuses as one check for each state would
+-- one for one, also where the number of a check goes by the state: it refuses as single checks do, one for each state
 
-record RowByRow (cs : List Check) (rs : List Reason) : Type 1 where
-  rows : List Check
-  exactly : AllExactly rows rs
-  alike : (refuse : ℕ → Outcome) (o : Outcome) → unless refuse cs o ≡ unless refuse rows o
+record OneForOne (cs : List Check) (rs : List Reason) : Type 1 where
+  singles : List Check
+  exactly : AllExactly singles rs
+  alike : (refuse : ℕ → Outcome) (o : Outcome) → unless refuse cs o ≡ unless refuse singles o
 
-plainly : {cs : List Check} {rs : List Reason} → AllExactly cs rs → RowByRow cs rs
-plainly {cs} g = record { rows = cs; exactly = g; alike = λ refuse o. refl }
+plainly : {cs : List Check} {rs : List Reason} → AllExactly cs rs → OneForOne cs rs
+plainly {cs} g = record { singles = cs; exactly = g; alike = λ refuse o. refl }
 
-before : {c : Check} {r : Reason} {cs : List Check} {rs : List Reason} → Exactly c r → RowByRow cs rs → RowByRow (c ∷ cs) (r ∷ rs)
-before {c} g h = record { rows = c ∷ h .rows; exactly = (g, h .exactly); alike = λ refuse o. rw (h .alike refuse o) }
+before : {c : Check} {r : Reason} {cs : List Check} {rs : List Reason} → Exactly c r → OneForOne cs rs → OneForOne (c ∷ cs) (r ∷ rs)
+before {c} g h = record { singles = c ∷ h .singles; exactly = (g, h .exactly); alike = λ refuse o. rw (h .alike refuse o) }
 
-abbrev resumeRows : State → List Check
-resumeRows st = (7 when isFree st) ∷ (17 when isCurrent st) ∷ (18 when isReady st) ∷ (19 when isWaiting st) ∷ []
+abbrev resumeSingles : State → List Check
+resumeSingles st = (7 when isFree st) ∷ (17 when isCurrent st) ∷ (18 when isReady st) ∷ (19 when isWaiting st) ∷ []
 
-abbrev suspendRows : State → List Check
-suspendRows st = (7 when isFree st) ∷ (9 when isSuspended st) ∷ (19 when isWaiting st) ∷ []
+abbrev suspendSingles : State → List Check
+suspendSingles st = (7 when isFree st) ∷ (9 when isSuspended st) ∷ (19 when isWaiting st) ∷ []
 
-rows-alike : (refuse : ℕ → Outcome) (o : Outcome) (st : State)
-    → (unless refuse ((7 when isFree st) ∷ (stateRefusal st when not (isSuspended st)) ∷ []) o ≡ unless refuse (resumeRows st) o)
-    × (unless refuse ((7 when isFree st) ∷ (stateRefusal st when not (isReady st || isCurrent st)) ∷ []) o ≡ unless refuse (suspendRows st) o)
-rows-alike refuse o Free = (refl, refl)
-rows-alike refuse o Current = (refl, refl)
-rows-alike refuse o Ready = (refl, refl)
-rows-alike refuse o Suspended = (refl, refl)
-rows-alike refuse o (Waiting s) = (refl, refl)
+singles-alike : (refuse : ℕ → Outcome) (o : Outcome) (st : State)
+    → (unless refuse ((7 when isFree st) ∷ (stateRefusal st when not (isSuspended st)) ∷ []) o ≡ unless refuse (resumeSingles st) o)
+    × (unless refuse ((7 when isFree st) ∷ (stateRefusal st when not (isReady st || isCurrent st)) ∷ []) o ≡ unless refuse (suspendSingles st) o)
+singles-alike refuse o Free = (refl, refl)
+singles-alike refuse o Current = (refl, refl)
+singles-alike refuse o Ready = (refl, refl)
+singles-alike refuse o Suspended = (refl, refl)
+singles-alike refuse o (Waiting s) = (refl, refl)
 
 module _ (t : Tables) (a : ℤ) where
-  resume-rows : RowByRow (notLive t a ∷ wrongState isSuspended t a ∷ []) (slotFree t a ∷ foundCurrent t a ∷ foundReady t a ∷ foundWaiting t a ∷ [])
-  resume-rows = record {
-    rows = resumeRows (stateOf t (natAbs a));
+  resume-given : OneForOne (notLive t a ∷ wrongState isSuspended t a ∷ []) (slotFree t a ∷ foundCurrent t a ∷ foundReady t a ∷ foundWaiting t a ∷ [])
+  resume-given = record {
+    singles = resumeSingles (stateOf t (natAbs a));
     exactly = (given-7 t a, (given-17 t a, (given-18 t a, (given-19 t a, tt))));
-    alike = λ refuse o. rows-alike refuse o (stateOf t (natAbs a)) .0;
+    alike = λ refuse o. singles-alike refuse o (stateOf t (natAbs a)) .0;
   }
 
-  suspend-rows : RowByRow (notLive t a ∷ wrongState (λ st. isReady st || isCurrent st) t a ∷ []) (slotFree t a ∷ foundSuspended t a ∷ foundWaiting t a ∷ [])
-  suspend-rows = record {
-    rows = suspendRows (stateOf t (natAbs a));
+  suspend-given : OneForOne (notLive t a ∷ wrongState (λ st. isReady st || isCurrent st) t a ∷ []) (slotFree t a ∷ foundSuspended t a ∷ foundWaiting t a ∷ [])
+  suspend-given = record {
+    singles = suspendSingles (stateOf t (natAbs a));
     exactly = (given-7 t a, (given-9 t a, (given-19 t a, tt)));
-    alike = λ refuse o. rows-alike refuse o (stateOf t (natAbs a)) .1;
+    alike = λ refuse o. singles-alike refuse o (stateOf t (natAbs a)) .1;
   }
 
-checks-given : {t : Tables} → Sound t → CountsFit t → (c : Call) → RowByRow (checks t c) (ownReasons t c)
+checks-given : {t : Tables} → Sound t → CountsFit t → (c : Call) → OneForOne (checks t c) (ownReasons t c)
 checks-given {t} S F (Wait a) = plainly (given-1 a, (given-2 t a, (given-10 (currentOf t), tt)))
 checks-given {t} S F (Signal a) = plainly (given-1 a, (given-2 t a, (given-5 t a (F (natAbs a)), tt)))
 checks-given S F (MakeSemaphore a) = plainly (given-3 a, (given-4 S, tt))
 checks-given {t} S F (Delete a) = plainly (given-1 a, (given-2 t a, tt))
 checks-given {t} S F (Reset a b) = plainly (given-3 b, (given-1 a, (given-2 t a, tt)))
 checks-given S F (MakeProcess a) = plainly (given-11 a, (given-8 S, tt))
-checks-given {t} S F (Resume a) = before (given-6 a) (resume-rows t a)
-checks-given {t} S F (Suspend a) = before (given-6 a) (before (given-10 (natAbs a)) (suspend-rows t a))
+checks-given {t} S F (Resume a) = before (given-6 a) (resume-given t a)
+checks-given {t} S F (Suspend a) = before (given-6 a) (before (given-10 (natAbs a)) (suspend-given t a))
 checks-given {t} S F (Kill a) = plainly (given-6 a, (given-10 (natAbs a), (given-7 t a, tt)))
 checks-given S F Yield = plainly tt
 checks-given {t} S F (Count a) = plainly (given-1 a, (given-2 t a, tt))
@@ -219,7 +219,7 @@ module _ {t : Tables} (S : Sound t) (F : CountsFit t) where
   unfolding step
   step-exactly c n =
       let g = checks-given S F c in
-      rw (g .alike (λ m. refused m t) (finish (deed t c)), ← append-nil (ownReasons t c)) (unless-exactly t (g .rows) (ownReasons t c) [] (finish (deed t c)) n (g .exactly) (finish-done (deed t c) n, λ w. absurd w))
+      rw (g .alike (λ m. refused m t) (finish (deed t c)), ← append-nil (ownReasons t c)) (unless-exactly t (g .singles) (ownReasons t c) [] (finish (deed t c)) n (g .exactly) (finish-done (deed t c) n, λ w. absurd w))
 
   pub numbered-exactly : (m : ℕ) (a b : ℤ) (n : ℕ) → (numbered t m a b .answer ≡ Refused n) ↔ FirstOf (numberedReasons t m a b) n
   unfolding numbered
