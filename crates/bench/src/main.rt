@@ -3,7 +3,6 @@
 use cottonsedge::boot::cottonsedge_boot;
 use feed::feed::{Part, ROOM, feed, finish};
 use layout::offsets::SIZE;
-use layout::rule::RELEASES;
 use libc::{STDIN_FILENO, STDOUT_FILENO};
 
 const CHUNK: usize = 4096;
@@ -60,6 +59,6 @@ fn serve(tables: &mut [u8]) {
 
 fn main() {
     let mut tables = [0u8; SIZE];
-    cottonsedge_boot(&mut tables, RELEASES);
+    cottonsedge_boot(&mut tables);
     serve(&mut tables);
 }

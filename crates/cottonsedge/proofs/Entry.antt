@@ -23,7 +23,7 @@ use Rattle.layout.proofs.Image.{bytes_back, same_bytes, stands-made, stands_read
 use Rattle.lists.proofs.Bools.{split}
 use Rattle.rules.proofs.Numbers.{enter-sound, enter-unsound}
 use Rattle.soundness.proofs.GoodBytes.{good-formed, good-sound}
-use Rattle.cottonsedge.specs.Entries.{Started, answer_of, bytes_after, check_answer}
+use Rattle.cottonsedge.specs.Entries.{answer_of, boot_answer, booted, bytes_after, check_answer}
 use Rattle.cottonsedge.specs.Fields.{packed}
 
 -- Bytes that aren't good come back as they came, answered 15
@@ -68,8 +68,8 @@ module _ (bs after : List ℕ) (n : ℕ) (a b : ℤ) (r : Told) (byte : (i : ℕ
 
 -- What the other two entries answer and leave is one function of what was lent
 
-pub boot-determined : (bs : List ℕ) (n r r' : ℕ) (x x' : List ℕ) → Started bs n r x → Started bs n r' x' → (r ≡ r') × (x ≡ x')
-boot-determined bs n r r' x x' p q = (p.answer ∙ sym q.answer, p.bytes ∙ sym q.bytes)
+pub boot-determined : (bs : List ℕ) (r r' : ℕ) (x x' : List ℕ) → (r ≡ boot_answer bs) × (x ≡ booted bs) → (r' ≡ boot_answer bs) × (x' ≡ booted bs) → (r ≡ r') × (x ≡ x')
+boot-determined bs r r' x x' p q = (p.0 ∙ sym q.0, p.1 ∙ sym q.1)
 
 pub check-determined : (bs : List ℕ) (r r' : ℕ) → r ≡ check_answer bs → r' ≡ check_answer bs → r ≡ r'
 check-determined bs r r' p q = p ∙ sym q

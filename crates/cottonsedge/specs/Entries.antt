@@ -4,7 +4,7 @@ use Rattle.lists.specs.Lists.{if◌then◌else◌}
 use Rattle.tables.specs.Boot.{boot}
 use Rattle.tables.specs.Readers.{nobody}
 use Rattle.layout.specs.Offsets.{size}
-use Rattle.layout.specs.Bytes.{byte_rule, is_rule, to_bytes, from_bytes, well_formed}
+use Rattle.layout.specs.Bytes.{to_bytes, from_bytes, well_formed}
 use Rattle.soundness.specs.Good.{good}
 use Rattle.rules.specs.declared.Answer.TheVariants.{Refused}
 use Rattle.rules.specs.declared.Reply.{Reply}
@@ -27,18 +27,12 @@ pub record Called (bs : List ℕ) (n : ℕ) (a b : ℤ) (r : ℕ) (after : List 
   pub answer : r ≡ answer_of bs n a b
   pub bytes : after ≡ bytes_after bs n a b
 
--- boot with a rule: 15 if the length is wrong, then 28 if no rule has that number, else 0
-unfoldable pub boot_answer : List ℕ → ℕ → ℕ
-boot_answer bs n = if eqb (length bs) size then (if is_rule n then 0 else 28) else 15
+-- boot: the boot tables where the length is right; else 15, and nothing is written
+unfoldable pub boot_answer : List ℕ → ℕ
+boot_answer bs = if eqb (length bs) size then 0 else 15
 
--- with 0 the boot tables under that rule; else nothing is written
-unfoldable pub booted : List ℕ → ℕ → List ℕ
-booted bs n = if eqb (boot_answer bs n) 0 then to_bytes (boot (byte_rule n)) else bs
-
--- the answer r and the bytes that are left, as boot has to have them
-pub record Started (bs : List ℕ) (n r : ℕ) (after : List ℕ) : Type 0 where
-  pub answer : r ≡ boot_answer bs n
-  pub bytes : after ≡ booted bs n
+unfoldable pub booted : List ℕ → List ℕ
+booted bs = if eqb (length bs) size then to_bytes boot else bs
 
 -- the check
 unfoldable pub check_answer : List ℕ → ℕ

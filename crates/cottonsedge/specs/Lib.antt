@@ -1,5 +1,4 @@
 pub mod Fields
 pub mod Entries
-pub mod Booting
 pub mod Pages
 pub mod Walk

@@ -3,7 +3,7 @@ use Prim.Native.Nat.{ℕ}
 use mathlib.Core.Bool.{false, true, true≢false}
 use mathlib.Core.List.{List}
 use mathlib.Core.Logic.{◌≢◌, ◌↔◌, inl, inr, ⊎_elim}
-use mathlib.Core.Path.{◌≡◌, ◌∙◌, ap, sym}
+use mathlib.Core.Path.{◌≡◌, ◌∙◌, ap, subst, sym}
 use Rattle.layout.specs.Bytes.{from_bytes}
 use Rattle.promises.specs.Record.{Request, made}
 use Rattle.rules.specs.Answers.{number_of}
@@ -13,17 +13,29 @@ use Rattle.rules.specs.declared.Answer.TheVariants.{Done, Refused}
 use Rattle.soundness.specs.Good.{good}
 use Rattle.cottonsedge.specs.Entries.{answer_of}
 use Rattle.cottonsedge.specs.Fields.{refusal_field}
-use Rattle.layout.proofs.Image.{stands_read}
+use Rattle.layout.proofs.Image.{bytes_back, stands_read}
 use Rattle.lists.proofs.Bools.{split}
 use Rattle.telling.proofs.Given.{numbered-exactly}
 use Rattle.soundness.proofs.GoodBytes.{good-formed, good-sound}
+use Rattle.cottonsedge.proofs.Calls.{call-refusal}
+use Rattle.cottonsedge.proofs.Entry.{refused-answer}
 use Rattle.demands.specs.Demands.{Allowed, Asked, Bytes, Result, reasons_of_bytes}
-use Rattle.demands.proofs.Answered.{sound-refusal, unsound-refusal}
 
 -- a number that isn't 0 is a refusal's
 number-refused : (r : Answer) (n : ℕ) → n ≢ 0 → (number_of r ≡ n) ↔ (r ≡ Refused n)
 number-refused (Done v) n h = (λ e. absurd (h (sym e)), λ e. ap number_of e)
 number-refused (Refused m) n h = (ap Refused, ap number_of)
+
+-- the refusal of a call on sound tables is that of the rules
+pub sound-refusal : (bs : List ℕ) (q : Request) → Bytes bs → Asked q → good bs ≡ true → refusal_field (answer_of bs q.number q.a q.b) ≡ number_of (made (from_bytes bs) q).answer
+sound-refusal bs q byte k g =
+    let wf = good-formed bs g in
+    subst (λ (x : List ℕ). refusal_field (answer_of x q.number q.a q.b) ≡ number_of (made (from_bytes bs) q).answer) (bytes_back bs byte wf)
+    (call-refusal (good-sound bs g) (stands_read bs byte wf).held.fits q.number q.a q.b k.arguments.a k.arguments.b)
+
+-- of others 15
+pub unsound-refusal : (bs : List ℕ) (q : Request) → good bs ≡ false → refusal_field (answer_of bs q.number q.a q.b) ≡ 15
+unsound-refusal bs q g = ap refusal_field (sym (refused-answer bs q.number q.a q.b g))
 
 module _ (bs : List ℕ) (q : Request) (byte : Bytes bs) (k : Asked q) (n : ℕ) (h : n ≢ 0) where
   abbrev answer : ℕ

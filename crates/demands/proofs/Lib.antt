@@ -1,6 +1,5 @@
 pub mod SmallBytes
 pub mod Demand1
-pub mod Answered
 pub mod Given
 pub mod Named
 pub mod Asked
@@ -9,5 +8,3 @@ pub mod ShutOut
 pub mod Edges
 pub mod Permits
 pub mod Pages
-pub mod Boots
-pub mod Owners

@@ -19,7 +19,7 @@ use Rattle.cottonsedge.specs.Fields.{refusal_field}
 use Rattle.lists.proofs.Bools.{split}
 use Rattle.telling.proofs.Named.{state-named}
 use Rattle.demands.specs.Demands.{Allowed, Asked, Bytes, Result}
-use Rattle.demands.proofs.Answered.{sound-refusal, unsound-refusal}
+use Rattle.demands.proofs.Given.{sound-refusal, unsound-refusal}
 
 module _ (bs : List ℕ) (q : Request) (byte : Bytes bs) (k : Asked q) (c : (q.number ≡ 7) ⊎ (q.number ≡ 8)) where
   abbrev found : State

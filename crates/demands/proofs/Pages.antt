@@ -11,6 +11,7 @@ use lib.Seq.{drop-append_seam, take-append_seam}
 use mir.Syntax.{w32}
 use mir.Val.{SFits, of_z}
 use Rattle.layout.specs.Bytes.{from_bytes}
+use Rattle.layout.specs.Offsets.{size}
 use Rattle.lists.specs.Lists.{at_place}
 use Rattle.promises.specs.Record.{Entry, Request, blocked}
 use Rattle.rules.specs.Answers.{number_of, value_of}
@@ -23,6 +24,7 @@ use Rattle.status.specs.Shown.{queue_shown, shown_at}
 use Rattle.tables.specs.Limits.{process_limit}
 use Rattle.tables.specs.Readers.{live}
 use Rattle.telling.specs.Reasons.{FirstOf}
+use Rattle.cottonsedge.specs.Entries.{booted}
 use Rattle.cottonsedge.specs.Fields.{refusal_field, value_field}
 use Rattle.cottonsedge.specs.Pages.{left_by, page_answer, page_number, rows_after}
 use Rattle.promises.proofs.Demand.{demand3-queue}
@@ -35,7 +37,7 @@ use Rattle.cottonsedge.proofs.FieldLaws.{packed-small, process-back, refusal-bac
 use Rattle.cottonsedge.proofs.PageLaws.{answer-bad, answer-done, answer-few, page-cases}
 use Rattle.demands.specs.Demands.{Demand2, Kernel}
 use Rattle.demands.specs.Pages.{PageAllowed, PageResult, PageTold, reasons_of_page, shown_by}
-use Rattle.demands.specs.Sessions.{AllAsked, Booted, exchanges, left, record_seen}
+use Rattle.demands.specs.Sessions.{AllAsked, exchanges, left, record_seen}
 use Rattle.demands.proofs.Sessions.{demand3-of-bytes, left-good}
 
 -- any two results that the contract allows are the same
@@ -138,24 +140,24 @@ module _ (bs : List ℕ) (lent : List Row) (x : PageResult) (c : PageAllowed bs 
 
 -- Of the bytes that any session leaves, begun with what `cottonsedge_boot` writes
 
-module _ (k : Kernel) (d : Demand2 k) {start : List ℕ} (b : Booted start) (requests : List Request) (hs : AllAsked requests) where
+module _ (k : Kernel) (d : Demand2 k) (bs : List ℕ) (l : length bs ≡ size) (requests : List Request) (hs : AllAsked requests) where
   abbrev bytes : List ℕ
-  bytes = left k start requests
+  bytes = left k (booted bs) requests
 
   abbrev entries : List Entry
-  entries = record_seen (exchanges k start requests)
+  entries = record_seen (exchanges k (booted bs) requests)
 
   module _ (lent : List Row) (x : PageResult) (c : PageAllowed bytes lent x) (h : refusal_field x.answer ≡ 0) where
     -- at each place of each queue the rows show who the record says is blocked there, and nobody else
     pub page-places : (s n : ℕ) → shown_at (shown_by x) s n ≡ at_place n (blocked entries s)
     page-places s n =
         ap (λ (rs : List Row). shown_at rs s n) ((page-told bytes lent x c).shown h)
-        ∙ place-shown (good-sound bytes (left-good k d b requests hs)) s n
-        ∙ ap (at_place n) (demand3-queue (demand3-of-bytes k d b requests hs) s)
+        ∙ place-shown (good-sound bytes (left-good k d bs l requests hs)) s n
+        ∙ ap (at_place n) (demand3-queue (demand3-of-bytes k d bs l requests hs) s)
 
     -- so each queue read by place is those still blocked, oldest first
     pub page-queues : (s : ℕ) → queue_shown (shown_by x) s ≡ blocked entries s
     page-queues s =
         ap (λ (rs : List Row). queue_shown rs s) ((page-told bytes lent x c).shown h)
-        ∙ queue-shown (good-sound bytes (left-good k d b requests hs)) s
-        ∙ demand3-queue (demand3-of-bytes k d b requests hs) s
+        ∙ queue-shown (good-sound bytes (left-good k d bs l requests hs)) s
+        ∙ demand3-queue (demand3-of-bytes k d bs l requests hs) s

@@ -16,15 +16,11 @@ use Rattle.rules.specs.Calls.{step}
 use Rattle.rules.specs.Enter.{numbered}
 use Rattle.rules.specs.declared.Answer.{Answer}
 use Rattle.rules.specs.declared.Answer.TheVariants.{Done}
-use Rattle.tables.specs.declared.Rule.{Rule}
-use Rattle.tables.specs.declared.Rule.TheVariants.{Releases}
 use Rattle.tables.specs.Boot.{boot}
 use Rattle.tables.specs.Readers.{count_of}
 use Rattle.tables.specs.declared.Tables.{Tables}
 use Rattle.cottonsedge.specs.Fields.{refusal_field, value_field}
 use Rattle.promises.proofs.Runs.{boot-run-fits, boot-run-sound}
-use Rattle.rules.proofs.Fits.{fits-boot}
-use Rattle.tables.proofs.BootLaws.{sound-boot}
 use Rattle.cottonsedge.proofs.Calls.{back}
 use Rattle.demands.specs.Demands.{Allowed, Asked, Bytes, Demand2, Kernel, Result}
 use Rattle.demands.specs.Kernels.{Wrong, answers_one, asks_twice, changes_nothing, makes_up_count, only_first, refuses_all}
@@ -65,39 +61,38 @@ signalled = call 2 (pos 0) ∷ asked
 
 -- what the rules say of it
 
-module _ (r : Rule) where
-  make-done : (made (after (boot r) []) (call 3 (pos 0))).answer ≡ Done (pos 0)
-  unfolding after numbered step boot filter is_empty first_or listed round_from
-  make-done = refl
+make-done : (made (after boot []) (call 3 (pos 0))).answer ≡ Done (pos 0)
+unfolding after numbered step boot filter is_empty first_or listed round_from
+make-done = refl
 
-  count-done : (made (after (boot r) begun) (call 11 (pos 0))).answer ≡ Done (pos 0)
-  unfolding after numbered step boot filter is_empty first_or listed round_from
-  count-done = refl
+count-done : (made (after boot begun) (call 11 (pos 0))).answer ≡ Done (pos 0)
+unfolding after numbered step boot filter is_empty first_or listed round_from
+count-done = refl
 
-  count-again : (made (after (boot r) signalled) (call 11 (pos 0))).answer ≡ Done (pos 1)
-  unfolding after numbered step boot filter is_empty first_or listed round_from
-  count-again = refl
+count-again : (made (after boot signalled) (call 11 (pos 0))).answer ≡ Done (pos 1)
+unfolding after numbered step boot filter is_empty first_or listed round_from
+count-again = refl
 
-  count-before : count_of (after (boot r) asked) 0 ≡ pos 0
-  unfolding after numbered step boot filter is_empty first_or listed round_from
-  count-before = refl
+count-before : count_of (after boot asked) 0 ≡ pos 0
+unfolding after numbered step boot filter is_empty first_or listed round_from
+count-before = refl
 
-  count-raised : count_of (after (boot r) signalled) 0 ≡ pos 1
-  unfolding after numbered step boot filter is_empty first_or listed round_from
-  count-raised = refl
+count-raised : count_of (after boot signalled) 0 ≡ pos 1
+unfolding after numbered step boot filter is_empty first_or listed round_from
+count-raised = refl
 
 -- The wrong ones
 
-module _ (r : Rule) (k : Kernel) (s : Steps k (to_bytes (boot r)) asks_twice) where
-  steps-begun : Steps k (to_bytes (boot r)) begun
+module _ (k : Kernel) (s : Steps k (to_bytes boot) asks_twice) where
+  steps-begun : Steps k (to_bytes boot) begun
   unfolding Steps
   steps-begun = s.1.1.1
 
-  steps-asked : Steps k (to_bytes (boot r)) asked
+  steps-asked : Steps k (to_bytes boot) asked
   unfolding Steps
   steps-asked = s.1.1
 
-  steps-signalled : Steps k (to_bytes (boot r)) signalled
+  steps-signalled : Steps k (to_bytes boot) signalled
   unfolding Steps
   steps-signalled = s.1
 
@@ -105,24 +100,24 @@ module _ (r : Rule) (k : Kernel) (s : Steps k (to_bytes (boot r)) asks_twice) wh
   fits-signalled = asked-fit signalled asks-twice-asked.1
 
   -- the signal changes a byte
-  signal-changes : (given k (to_bytes (boot r)) asked (call 2 (pos 0))).bytes ≡ left k (to_bytes (boot r)) asked → ⊥
+  signal-changes : (given k (to_bytes boot) asked (call 2 (pos 0))).bytes ≡ left k (to_bytes boot) asked → ⊥
   unfolding left
   signal-changes e =
       let fs = fits-signalled.1 in
-      let b : to_bytes (after (boot r) signalled) ≡ to_bytes (after (boot r) asked) = sym (steps-bytes (sound-boot r) (fits-boot r) k signalled fits-signalled steps-signalled) ∙ e ∙ steps-bytes (sound-boot r) (fits-boot r) k asked fs steps-asked in
-      let t : after (boot r) signalled ≡ after (boot r) asked = sym (back (boot-run-sound r signalled) (boot-run-fits r signalled fits-signalled)) ∙ ap from_bytes b ∙ back (boot-run-sound r asked) (boot-run-fits r asked fs) in
-      let c : pos 1 ≡ pos 0 = sym (count-raised r) ∙ ap (λ (x : Tables). count_of x 0) t ∙ (count-before r) in
+      let b : to_bytes (after boot signalled) ≡ to_bytes (after boot asked) = sym (steps-bytes k signalled fits-signalled steps-signalled) ∙ e ∙ steps-bytes k asked fs steps-asked in
+      let t : after boot signalled ≡ after boot asked = sym (back (boot-run-sound signalled) (boot-run-fits signalled fits-signalled)) ∙ ap from_bytes b ∙ back (boot-run-sound asked) (boot-run-fits asked fs) in
+      let c : pos 1 ≡ pos 0 = sym count-raised ∙ ap (λ (x : Tables). count_of x 0) t ∙ count-before in
       let z : ◌≡◌ {A = ℕ} 1 0 = cc in
       omega arith
 
-  make-refusal : refusal_field (given k (to_bytes (boot r)) [] (call 3 (pos 0))).answer ≡ 0
-  make-refusal = steps-refusal (sound-boot r) (fits-boot r) k (call 3 (pos 0)) [] (asked-fit begun asks-twice-asked.1.1.1) steps-begun ∙ ap number_of (make-done r)
+  make-refusal : refusal_field (given k (to_bytes boot) [] (call 3 (pos 0))).answer ≡ 0
+  make-refusal = steps-refusal k (call 3 (pos 0)) [] (asked-fit begun asks-twice-asked.1.1.1) steps-begun ∙ ap number_of make-done
 
-  first_count : value_field (given k (to_bytes (boot r)) begun (call 11 (pos 0))).answer ≡ 0
-  first_count = steps-value (sound-boot r) (fits-boot r) k (call 11 (pos 0)) begun (asked-fit asked asks-twice-asked.1.1) steps-asked ∙ ap (λ (r : Answer). of_z w32 (value_of r)) (count-done r)
+  first_count : value_field (given k (to_bytes boot) begun (call 11 (pos 0))).answer ≡ 0
+  first_count = steps-value k (call 11 (pos 0)) begun (asked-fit asked asks-twice-asked.1.1) steps-asked ∙ ap (λ (r : Answer). of_z w32 (value_of r)) count-done
 
-  second-count : value_field (given k (to_bytes (boot r)) signalled (call 11 (pos 0))).answer ≡ 1
-  second-count = steps-value (sound-boot r) (fits-boot r) k (call 11 (pos 0)) signalled (asked-fit asks_twice asks-twice-asked) s ∙ ap (λ (r : Answer). of_z w32 (value_of r)) (count-again r)
+  second-count : value_field (given k (to_bytes boot) signalled (call 11 (pos 0))).answer ≡ 1
+  second-count = steps-value k (call 11 (pos 0)) signalled (asked-fit asks_twice asks-twice-asked) s ∙ ap (λ (r : Answer). of_z w32 (value_of r)) count-again
 
   told-apart : Wrong k → ⊥
   told-apart (refuses_all w) = w _ _ _ make-refusal
@@ -132,9 +127,9 @@ module _ (r : Rule) (k : Kernel) (s : Steps k (to_bytes (boot r)) asks_twice) wh
   told-apart (makes_up_count (v, w)) = let e : ◌≡◌ {A = ℕ} 0 1 = sym first_count ∙ w _ _ _ ∙ sym (w _ _ _) ∙ second-count in omega arith
 
 -- the session tells each of them from a kernel whose steps the contract allows
-pub session-tells : (r : Rule) (k : Kernel) → Wrong k → Steps k (to_bytes (boot r)) asks_twice → ⊥
-session-tells r k w s = told-apart r k s w
+pub session-tells : (k : Kernel) → Wrong k → Steps k (to_bytes boot) asks_twice → ⊥
+session-tells k w s = told-apart k s w
 
 -- so none meets demand 2
 pub shut_out : (k : Kernel) → Wrong k → Demand2 k → ⊥
-shut_out k w d = session-tells Releases k w (demand2-steps (sound-boot Releases) (fits-boot Releases) k d asks_twice asks-twice-asked)
+shut_out k w d = session-tells k w (demand2-steps k d asks_twice asks-twice-asked)

@@ -8,15 +8,13 @@ use lib.ListN.{get_or-eq_default, get_or, length}
 use mir.Syntax.{w32}
 use mir.Val.{of_z}
 use borrow.Author.Tests.{ltb-true}
-use Rattle.layout.specs.Bytes.{byte_of, rule_byte, state_byte, to_bytes, used_byte, word_byte}
-use Rattle.layout.specs.Offsets.{counts_at, next_process_at, next_semaphore_at, order_at, priorities_at, rule_at, size, states_at, used_at}
+use Rattle.layout.specs.Bytes.{byte_of, state_byte, to_bytes, used_byte, word_byte}
+use Rattle.layout.specs.Offsets.{counts_at, next_process_at, next_semaphore_at, order_at, priorities_at, size, states_at, used_at}
 use Rattle.lists.specs.Lists.{if◌then◌else◌}
 use Rattle.tables.specs.Counts.{CountsFit}
 use Rattle.tables.specs.Limits.{process_limit, semaphore_limit}
 use Rattle.tables.specs.Readers.{count_of, is_used, priority_of, process, state_of}
 use Rattle.tables.specs.Sound.{Sound}
-use Rattle.tables.specs.declared.Rule.{Rule}
-use Rattle.tables.specs.declared.Rule.TheVariants.{Refuses, Releases}
 use Rattle.tables.specs.declared.State.{State}
 use Rattle.tables.specs.declared.State.TheVariants.{Current, Free, Ready, Suspended, Waiting}
 use Rattle.tables.specs.declared.Tables.{Tables}
@@ -42,10 +40,6 @@ used-small : (u : Bool) → used_byte u < 256
 used-small true = omega arith
 used-small false = omega arith
 
-rule-small : (r : Rule) → rule_byte r < 256
-rule-small Releases = omega arith
-rule-small Refuses = omega arith
-
 word_small : (n k : ℕ) → word_byte n k < 256
 word_small n k = chosen (eqb k 0) _ _ (omega arith) (chosen (eqb k 1) _ _ (omega arith) (chosen (eqb k 2) _ _ (omega arith) (omega arith)))
 
@@ -67,8 +61,7 @@ module _ {t : Tables} (S : Sound t) (F : CountsFit t) where
       (chosen (ltb i order_at) _ _ (word_small (of_z w32 (count_of t ((i - counts_at) / 4))) ((i - counts_at) % 4))
       (chosen (ltb i next_semaphore_at) _ _ (place-small (i - order_at))
       (chosen (ltb i next_process_at) _ _ (omega arith)
-      (chosen (ltb i rule_at) _ _ (omega arith)
-      (chosen (ltb i (rule_at + 1)) _ _ (rule-small t.rule) (omega arith))))))))
+      (chosen (ltb i (next_process_at + 1)) _ _ (omega arith) (omega arith)))))))
 
   pub sound-bytes : Bytes (to_bytes t)
   sound-bytes i =

@@ -1,16 +1,16 @@
 -- What is seen at a line of the table of edges, of the bytes and of the number that is answered.
-use Rattle.std.specs.Prelude.{ℕ, List, reverse, ◌≡◌}
+use Rattle.std.specs.Prelude.{ℕ, List, reverse}
 use Rattle.std.specs.Int.{w32}
 use Rattle.std.proofs.Common.{to_z}
 use Rattle.tables.specs.declared.Tables.{Tables}
 use Rattle.tables.specs.Readers.{current_of}
-use Rattle.layout.specs.Bytes.{from_bytes, rule_byte}
+use Rattle.layout.specs.Bytes.{from_bytes}
 use Rattle.rules.specs.Seen.{seen}
 use Rattle.promises.specs.Record.{Request}
 use Rattle.promises.specs.Edges.{Sight, Edge}
 use Rattle.cottonsedge.specs.Fields.{refusal_field, value_field, process_field}
 use Rattle.demands.specs.Demands.{Result, Kernel}
-use Rattle.demands.specs.Sessions.{Booted, left, given}
+use Rattle.demands.specs.Sessions.{left, given}
 
 -- where a kernel begins with these bytes
 abbrev pub sight_of_bytes : Kernel → List ℕ → Edge → Sight
@@ -26,7 +26,3 @@ sight_of_bytes k start e =
       is = seen (from_bytes x.bytes) e.semaphore;
       running = process_field x.answer;
     }
-
--- a line holds: wherever a session begins under its rule, that is seen
-abbrev pub Holds : Kernel → Edge → Type 0
-Holds k e = (start : List ℕ) (b : Booted start) → b.rule ≡ rule_byte e.rule → sight_of_bytes k start e ≡ e.sight

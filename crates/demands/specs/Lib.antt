@@ -4,5 +4,3 @@ pub mod Kernels
 pub mod Edges
 pub mod Permits
 pub mod Pages
-pub mod Boots
-pub mod Owners

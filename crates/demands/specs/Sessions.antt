@@ -1,17 +1,9 @@
 -- A session: any sequence of calls on the same bytes, and the record that is made of what the firmware sees of them. The latest call comes first.
-use Rattle.std.specs.Prelude.{ℕ, List, [], ◌∷◌, ◌≡◌}
+use Rattle.std.specs.Prelude.{ℕ, List, [], ◌∷◌}
 use Rattle.lists.specs.Lists.{Each}
 use Rattle.promises.specs.Record.{Request, Entry}
-use Rattle.cottonsedge.specs.Entries.{boot_answer, booted}
 use Rattle.cottonsedge.specs.Fields.{process_field, unpacked}
 use Rattle.demands.specs.Demands.{Asked, Result, Allowed, Kernel}
-
--- where a session begins: with what `cottonsedge_boot` leaves of any bytes that it is lent, under the rule that is chosen, where it answers 0
-pub record Booted (start : List ℕ) : Type 0 where
-  pub lent : List ℕ
-  pub rule : ℕ
-  pub done : boot_answer lent rule ≡ 0
-  pub bytes : start ≡ booted lent rule
 
 abbrev pub AllAsked : List Request → Type 0
 AllAsked qs = Each Asked qs

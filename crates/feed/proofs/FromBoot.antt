@@ -8,19 +8,18 @@ use mir.Syntax.{w32}
 use mir.Val.{SFits}
 use mir.ValLaws.{to_z-Fits}
 use Rattle.lists.proofs.Bools.{split}
-use Rattle.tables.specs.declared.Rule.{Rule}
-use Rattle.tables.specs.declared.Rule.TheVariants.{Releases}
 use Rattle.tables.specs.declared.Tables.{Tables}
 use Rattle.tables.specs.Boot.{boot}
 use Rattle.tables.specs.Sound.{Sound}
 use Rattle.tables.specs.Counts.{CountsFit}
 use Rattle.tables.specs.Readers.{current_of}
 use Rattle.tables.proofs.BootLaws.{sound-boot}
+use Rattle.layout.specs.Offsets.{size}
 use Rattle.layout.specs.Bytes.{to_bytes}
 use Rattle.rules.proofs.Kept.{sound-numbered}
 use Rattle.rules.proofs.Fits.{fits-boot, fits-numbered}
 use Rattle.soundness.specs.Good.{current_byte}
-use Rattle.cottonsedge.specs.Entries.{boot_answer, booted}
+use Rattle.cottonsedge.specs.Entries.{booted}
 use Rattle.cottonsedge.specs.Fields.{packed}
 use Rattle.cottonsedge.proofs.Calls.{back, call-bytes, call-packed}
 use Rattle.cottonsedge.proofs.Standing.{sound-good}
@@ -79,10 +78,10 @@ answers-ruled S F (line ∷ lines) =
     let one = goes S F (line_of line) (line-fits line) in
     rw (one.told, one.left, answers-ruled one.sound one.fits lines)
 
-pub boot-ruled : (r : Rule) (input : List ℕ) → answers (to_bytes (boot r)) input ≡ ruled (boot r) (lines_of input)
+pub boot-ruled : (input : List ℕ) → answers (to_bytes boot) input ≡ ruled boot (lines_of input)
 unfolding answers
-boot-ruled r input = answers-ruled (sound-boot r) (fits-boot r) (lines_of input)
+boot-ruled input = answers-ruled sound-boot fits-boot (lines_of input)
 
--- begun with what `cottonsedge_boot` writes under rule 1, the whole output of the bench is what the rules say of the lines of its whole input
-pub bench-ruled : (bytes : List ℕ) {chunks : List (List ℕ)} {out : List ℕ} → boot_answer bytes 1 ≡ 0 → Session (start (booted bytes 1)) chunks out → out ≡ ruled (boot Releases) (lines_of (joined chunks))
-bench-ruled bytes {chunks} done session = bench-answered bytes done session ∙ boot-ruled Releases (joined chunks)
+-- begun with what `cottonsedge_boot` writes, the whole output of the bench is what the rules say of the lines of its whole input
+pub bench-ruled : (bytes : List ℕ) {chunks : List (List ℕ)} {out : List ℕ} → length bytes ≡ size → Session (start (booted bytes)) chunks out → out ≡ ruled boot (lines_of (joined chunks))
+bench-ruled bytes {chunks} long session = bench-answered bytes long session ∙ boot-ruled (joined chunks)

@@ -4,7 +4,6 @@ use mathlib.Core.Path.{◌≡◌, refl, ◌∙◌}
 use mathlib.Core.List.{List, [], ◌∷◌, ◌++◌}
 use Rattle.lists.specs.Lists.{filter, take_out, put_before, place, times, is_empty, first_or}
 use Rattle.lists.specs.Numbers.{listed, round_from}
-use Rattle.tables.specs.declared.Rule.TheVariants.{Releases}
 use Rattle.tables.specs.Boot.{boot}
 use Rattle.tables.specs.Readers.{line}
 use Rattle.layout.specs.Bytes.{to_bytes}
@@ -59,9 +58,9 @@ output =
     ∷ []
     )
 
-by-rules : ruled (boot Releases) (lines_of input) ≡ output
+by-rules : ruled boot (lines_of input) ≡ output
 unfolding ruled lines_of input output typed printed line_of field_of read_on digit_of text_of written letter_of numbered step boot filter take_out put_before place times is_empty first_or listed round_from line joining make_all_ready start_first switch reschedule
 by-rules = refl
 
-pub paper-session : answers (to_bytes (boot Releases)) input ≡ output
-paper-session = boot-ruled Releases input ∙ by-rules
+pub paper-session : answers (to_bytes boot) input ≡ output
+paper-session = boot-ruled input ∙ by-rules

@@ -11,10 +11,10 @@ use lib.Seq.{take_all, take-append-le, append_snoc, take_at}
 use borrow.Author.Tests.{eqb-true, ne_eqb}
 use Rattle.lists.specs.Lists.{if◌then◌else◌, is_empty}
 use Rattle.lists.proofs.Bools.{split, below?}
-use Rattle.tables.specs.declared.Rule.TheVariants.{Releases}
 use Rattle.tables.specs.Boot.{boot}
+use Rattle.layout.specs.Offsets.{size}
 use Rattle.layout.specs.Bytes.{to_bytes}
-use Rattle.cottonsedge.specs.Entries.{boot_answer, booted}
+use Rattle.cottonsedge.specs.Entries.{booted}
 use Rattle.cottonsedge.proofs.BootBytes.{boot-bytes}
 use Rattle.lines.specs.Line.{line_of}
 use Rattle.lines.specs.Answers.{newline, answer_to, tables_after, text_of, over}
@@ -148,6 +148,6 @@ unfolding answers
 session-answered {bytes} {chunks} session =
     session-whole session ∙ whole-answers bytes [] (joined chunks) ∙ ap (answers_to bytes) (begun-none (lines_of (joined chunks)))
 
--- the bench: begun with what `cottonsedge_boot` writes under rule 1, its whole output is the answers to its whole input from the boot tables on
-pub bench-answered : (bytes : List ℕ) {chunks : List (List ℕ)} {out : List ℕ} → boot_answer bytes 1 ≡ 0 → Session (start (booted bytes 1)) chunks out → out ≡ answers (to_bytes (boot Releases)) (joined chunks)
-bench-answered bytes {chunks} done session = session-answered session ∙ ap (λ (bs : List ℕ). answers bs (joined chunks)) (boot-bytes bytes 1 done)
+-- the bench: begun with what `cottonsedge_boot` writes, its whole output is the answers to its whole input from the boot tables on
+pub bench-answered : (bytes : List ℕ) {chunks : List (List ℕ)} {out : List ℕ} → length bytes ≡ size → Session (start (booted bytes)) chunks out → out ≡ answers (to_bytes boot) (joined chunks)
+bench-answered bytes {chunks} long session = session-answered session ∙ ap (λ (bs : List ℕ). answers bs (joined chunks)) (boot-bytes bytes long)

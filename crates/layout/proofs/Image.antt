@@ -2,7 +2,7 @@
 use Prim.Native.Nat.{◌%◌, ◌*◌, ◌+◌, ◌-◌, ◌/◌, ◌<◌, ◌≤◌, ℕ}
 use native.Mathlib.Nat.{div-add-mod'}
 use native.Mathlib.Omega.{arith}
-use mathlib.Core.Bool.{Bool, ◌&&◌, false, true, true≢false}
+use mathlib.Core.Bool.{Bool, ◌&&◌, false, true}
 use mathlib.Core.List.{List, map}
 use mathlib.Core.Path.{◌∙◌, ◌≡◌, ap, refl, subst, sym}
 use lib.Dec.{eqb}
@@ -11,25 +11,23 @@ use lib.Seq.{ext_get_or}
 use mir.Syntax.{w32}
 use mir.Val.{SFits, of_z}
 use mir.ValLaws.{of_z-to_z, to_z-Fits}
-use borrow.Author.Tests.{eq-eqb, eqb-true, lt-ltb, ltb-true, ne_eqb}
+use borrow.Author.Tests.{eq-eqb, eqb-true, lt-ltb, ltb-true}
 use Rattle.lists.specs.Numbers.{all, listed}
 use Rattle.tables.specs.Limits.{process_limit, semaphore_limit}
 use Rattle.tables.specs.Readers.{count_of, free_semaphore, free_slot, is_used, priority_of, process, semaphore, state_of}
 use Rattle.tables.specs.declared.Process.{Process}
 use Rattle.tables.specs.declared.Semaphore.{Semaphore}
 use Rattle.tables.specs.declared.Tables.{Tables}
-use Rattle.tables.specs.declared.Rule.{Rule}
-use Rattle.tables.specs.declared.Rule.TheVariants.{Releases, Refuses}
 use Rattle.tables.specs.declared.State.{State}
 use Rattle.tables.specs.declared.State.TheVariants.{Current, Free, Ready, Suspended, Waiting}
 use Rattle.lists.proofs.Bools.{and_in, below?, both, either}
 use Rattle.lists.proofs.NumberLaws.{all-at, all_true, listed-all, listed_at, listed-length}
-use Rattle.layout.specs.Bytes.{byte_of, byte_rule, byte_state, count_at, flag_plain, from_bytes, is_rule, place_at, place_named, process_at, rule_byte, rule_named, semaphore_at, state_byte, state_named, to_bytes, used_byte, well_formed, word_at, word_byte, waiting_from}
-use Rattle.layout.specs.Offsets.{counts_at, next_process_at, next_semaphore_at, order_at, priorities_at, rule_at, size, states_at, used_at}
+use Rattle.layout.specs.Bytes.{byte_of, byte_state, count_at, flag_plain, from_bytes, place_at, place_named, process_at, semaphore_at, state_byte, state_named, to_bytes, used_byte, well_formed, word_at, word_byte, waiting_from}
+use Rattle.layout.specs.Offsets.{counts_at, next_process_at, next_semaphore_at, order_at, priorities_at, size, states_at, used_at}
 use Rattle.layout.specs.Stands.{Held, Named, Stands}
 use Rattle.layout.proofs.Words.{word-said, word_small}
 use Rattle.layout.proofs.Regions.{count-byte, place_byte, priority-byte, state-byte, used-byte}
-use Rattle.layout.proofs.Readers.{byte-waiting, place_read, process-read, rule-read, semaphore-read, state-stands, used-stands}
+use Rattle.layout.proofs.Readers.{byte-waiting, place_read, process-read, semaphore-read, state-stands, used-stands}
 
 -- Tables stand in their bytes, and in no others
 
@@ -89,7 +87,7 @@ stands-is t bs st =
     let ps : listed 0 process_limit (process_at bs) ≡ t.processes = listed-all free_slot (process_at bs) process_limit t.processes st.held.slots (process-read t bs st) in
     let ss : listed 0 semaphore_limit (semaphore_at bs) ≡ t.semaphores = listed-all free_semaphore (semaphore_at bs) semaphore_limit t.semaphores st.held.entries (semaphore-read t bs st) in
     let os : listed 0 process_limit (place_at bs) ≡ t.order = listed-all 0 (place_at bs) process_limit t.order st.held.places (place_read t bs st) in
-    rw (ps, ss, os, st.bytes next_semaphore_at (omega arith), st.bytes next_process_at (omega arith), rule-read t bs st)
+    rw (ps, ss, os, st.bytes next_semaphore_at (omega arith), st.bytes next_process_at (omega arith))
 
 -- A round trip from tables
 
@@ -103,12 +101,9 @@ module _ (bs : List ℕ) (wf : well_formed bs ≡ true) where
   unfolding well_formed
   formed-long = eqb-true (length bs) size (both (eqb (length bs) size) _ wf).0
 
-  rest : (all process_limit (state_named bs) && (all semaphore_limit (flag_plain bs) && (all process_limit (place_named bs) && rule_named bs))) ≡ true
+  rest : (all process_limit (state_named bs) && (all semaphore_limit (flag_plain bs) && all process_limit (place_named bs))) ≡ true
   unfolding well_formed
   rest = (both (eqb (length bs) size) _ wf).1
-
-  row-and-rule : (all process_limit (place_named bs) && rule_named bs) ≡ true
-  row-and-rule = (both (all semaphore_limit (flag_plain bs)) _ (both (all process_limit (state_named bs)) _ rest).1).1
 
   pub formed-state : (p : ℕ) → p < process_limit → get_or bs (states_at + p) 0 < waiting_from + semaphore_limit
   formed-state p h = ltb-true _ (waiting_from + semaphore_limit) (all-at (state_named bs) process_limit p (both (all process_limit (state_named bs)) _ rest).0 h)
@@ -117,10 +112,7 @@ module _ (bs : List ℕ) (wf : well_formed bs ≡ true) where
   formed-flag s h = ltb-true _ 2 (all-at (flag_plain bs) semaphore_limit s (both (all semaphore_limit (flag_plain bs)) _ (both (all process_limit (state_named bs)) _ rest).1).0 h)
 
   pub formed-place : (i : ℕ) → i < process_limit → get_or bs (order_at + i) 0 < process_limit
-  formed-place i h = ltb-true _ process_limit (all-at (place_named bs) process_limit i (both (all process_limit (place_named bs)) _ row-and-rule).0 h)
-
-  pub formed-rule : is_rule (get_or bs rule_at 0) ≡ true
-  formed-rule = (both (all process_limit (place_named bs)) _ row-and-rule).1
+  formed-place i h = ltb-true _ process_limit (all-at (place_named bs) process_limit i (both (all semaphore_limit (flag_plain bs)) _ (both (all process_limit (state_named bs)) _ rest).1).1 h)
 
 -- the bytes of tables that they can hold are well formed
 pub formed-made : (t : Tables) → Held t → well_formed (to_bytes t) ≡ true
@@ -132,9 +124,8 @@ formed-made t h =
     (λ p k. lt-ltb (get_or (to_bytes t) (states_at + p) 0) (waiting_from + semaphore_limit) (rw (state-stands t (to_bytes t) st p k) (state-small (state_of t p) (h.waits p k)))))
     (and_in (all_true semaphore_limit (flag_plain (to_bytes t))
     (λ s k. lt-ltb (get_or (to_bytes t) (used_at + s) 0) 2 (rw (used-stands t (to_bytes t) st s k) (used-small (is_used t s)))))
-    (and_in (all_true process_limit (place_named (to_bytes t))
-    (λ i k. lt-ltb (get_or (to_bytes t) (order_at + i) 0) process_limit (rw (place_read t (to_bytes t) st i k) (h.row i k))))
-    (rw (st.bytes rule_at (omega arith)) (rule-is t.rule)))))
+    (all_true process_limit (place_named (to_bytes t))
+    (λ i k. lt-ltb (get_or (to_bytes t) (order_at + i) 0) process_limit (rw (place_read t (to_bytes t) st i k) (h.row i k))))))
   where
     state-small : (s : State) → Named s → state_byte s < waiting_from + semaphore_limit
     state-small Free n = omega arith
@@ -146,10 +137,6 @@ formed-made t h =
     used-small : (u : Bool) → used_byte u < 2
     used-small true = omega arith
     used-small false = omega arith
-
-    rule-is : (r : Rule) → is_rule (rule_byte r) ≡ true
-    rule-is Releases = refl
-    rule-is Refuses = refl
 
 -- One entry of well formed bytes
 
@@ -163,9 +150,6 @@ state-back b h =
 
 used-back : (u : ℕ) → u < 2 → used_byte (eqb u 1) ≡ u
 used-back u h = either u 0 (λ e. rw e refl) (λ n. let e : u ≡ 1 = omega arith in rw e refl)
-
-pub rule-back : (n : ℕ) → is_rule n ≡ true → rule_byte (byte_rule n) ≡ n
-rule-back n h = either n 2 (λ e. rw e refl) (λ d. either n 1 (λ e. rw e refl) (λ c. absurd (true≢false (sym h ∙ rw (ne_eqb n 1 c, ne_eqb n 2 d)))))
 
 -- an array that is a field of a struct has the length of its type
 pub unmapped : (X Y : Type 0) (f : X → Y) (l : List X) (n : ℕ) → length (map f l) ≡ n → length l ≡ n
@@ -224,8 +208,7 @@ module _ (bs : List ℕ) (byte : (i : ℕ) → get_or bs i 0 < 256) (wf : well_f
       (λ k₃. below? i order_at (λ k. let e = div-add-mod' (i - counts_at) 4 in count_kept ((i - counts_at) / 4) ((i - counts_at) % 4) i (omega arith) (omega arith) (omega arith))
       (λ k₄. below? i next_semaphore_at (λ k. place_kept (i - order_at) i (omega arith) (omega arith))
       (λ k₅. below? i next_process_at (λ k. let e : i ≡ next_semaphore_at = omega arith in rw e refl)
-      (λ k₆. below? i rule_at (λ k. let e : i ≡ next_process_at = omega arith in rw e refl)
-      (λ k₇. let e : i ≡ rule_at = omega arith in rw e (sym (rule-back (get_or bs rule_at 0) (formed-rule bs wf))))))))))
+      (λ k₆. let e : i ≡ next_process_at = omega arith in rw e refl))))))
 
   pub stands_read : Stands said bs
   stands_read = record { held = held-said; long = formed-long bs wf; bytes = byte-kept }

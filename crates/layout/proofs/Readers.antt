@@ -11,16 +11,14 @@ use mir.Syntax.{w32}
 use mir.Val.{SFits, bool_byte, of_z, to_z}
 use mir.ValLaws.{of_z_fits, to_z-of_z}
 use borrow.Author.Tests.{lt-ltb, ne_eqb}
-use Rattle.tables.specs.declared.Rule.{Rule}
-use Rattle.tables.specs.declared.Rule.TheVariants.{Releases, Refuses}
 use Rattle.tables.specs.declared.State.{State}
 use Rattle.tables.specs.declared.State.TheVariants.{Current, Free, Ready, Suspended, Waiting}
 use Rattle.tables.specs.declared.Tables.{Tables}
 use Rattle.tables.specs.Limits.{process_limit, semaphore_limit}
 use Rattle.tables.specs.Readers.{count_of, is_used, priority_of, process, semaphore, state_of}
 use Rattle.tables.specs.States.{is_free}
-use Rattle.layout.specs.Offsets.{counts_at, next_process_at, next_semaphore_at, order_at, priorities_at, rule_at, states_at, used_at}
-use Rattle.layout.specs.Bytes.{byte_rule, byte_state, count_at, no_state, process_at, rule_byte, semaphore_at, state_byte, used_byte, waiting_from}
+use Rattle.layout.specs.Offsets.{counts_at, next_process_at, next_semaphore_at, order_at, priorities_at, states_at, used_at}
+use Rattle.layout.specs.Bytes.{byte_state, count_at, no_state, process_at, semaphore_at, state_byte, used_byte, waiting_from}
 use Rattle.layout.specs.Stands.{Named, Stands, Tells}
 use Rattle.lists.proofs.Bools.{split}
 use Rattle.layout.proofs.Words.{word_read}
@@ -52,10 +50,6 @@ free-byte (Waiting q) = wait-byte q 0 (omega arith)
 used-there : (u : Bool) → eqb (used_byte u) 1 ≡ u
 used-there true = refl
 used-there false = refl
-
-pub rule-there : (r : Rule) → byte_rule (rule_byte r) ≡ r
-rule-there Releases = refl
-rule-there Refuses = refl
 
 -- Of bytes that are tables
 
@@ -90,9 +84,6 @@ module _ (t : Tables) (bs : List ℕ) (st : Stands t bs) where
   pub place_read : (i : ℕ) → i < process_limit → get_or bs (order_at + i) 0 ≡ get_or t.order i 0
   place_read i h = st.bytes (order_at + i) (omega arith) ∙ place_byte t i (order_at + i) h refl
 
-  pub rule-read : byte_rule (get_or bs rule_at 0) ≡ t.rule
-  rule-read = ap byte_rule (st.bytes rule_at (omega arith)) ∙ rule-there t.rule
-
 -- As readers
 
 module _ (bs : List ℕ) where
@@ -119,10 +110,6 @@ module _ (bs : List ℕ) where
   pub next-process-tells : Tells (λ t. t.next_process) bs (get_or bs next_process_at 0)
   unfolding Tells
   next-process-tells t st = st.bytes next_process_at (omega arith)
-
-  pub rule-tells : Tells (λ t. t.rule) bs (byte_rule (get_or bs rule_at 0))
-  unfolding Tells
-  rule-tells t st = rule-read t bs st
 
 -- a flag stored as the machine stores a bool
 pub bool-byte : (b : Bool) → bool_byte b ≡ used_byte b

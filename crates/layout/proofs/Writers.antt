@@ -11,17 +11,16 @@ use lib.IntN.{ℤ}
 use mir.Syntax.{w32}
 use mir.Val.{SFits, of_z}
 use borrow.Author.Tests.{le-ltb, lt-ltb}
-use Rattle.tables.specs.declared.Rule.{Rule}
 use Rattle.tables.specs.declared.State.{State}
 use Rattle.tables.specs.declared.Process.{Process}
 use Rattle.tables.specs.declared.Semaphore.{Semaphore}
 use Rattle.tables.specs.declared.Tables.{Tables}
 use Rattle.tables.specs.Limits.{process_limit, semaphore_limit}
 use Rattle.tables.specs.Readers.{count_of, free_semaphore, free_slot, is_used, priority_of, state_of}
-use Rattle.tables.specs.Setters.{with_count, with_cursors, with_next_process, with_next_semaphore, with_order, with_priority, with_process, with_processes, with_rule, with_semaphore, with_semaphores, with_state, with_used}
+use Rattle.tables.specs.Setters.{with_count, with_cursors, with_next_process, with_next_semaphore, with_order, with_priority, with_process, with_processes, with_semaphore, with_semaphores, with_state, with_used}
 use Rattle.lists.proofs.Bools.{below?}
-use Rattle.layout.specs.Offsets.{counts_at, next_process_at, next_semaphore_at, order_at, priorities_at, rule_at, states_at, used_at}
-use Rattle.layout.specs.Bytes.{byte_of, rule_byte, state_byte, used_byte, word_byte}
+use Rattle.layout.specs.Offsets.{counts_at, next_process_at, next_semaphore_at, order_at, priorities_at, states_at, used_at}
+use Rattle.layout.specs.Bytes.{byte_of, state_byte, used_byte, word_byte}
 use Rattle.layout.specs.Stands.{Held, Named, Stands, Turns, store4}
 use Rattle.layout.proofs.Regions.{count-byte, entry, here, kept, place_byte, priority-byte, put_byte, put_word, state-byte, used-byte}
 
@@ -92,11 +91,8 @@ module _ (t : Tables) where
   cursor-same s p i first second =
       below? i next_semaphore_at (λ a. rw (lt-ltb i next_semaphore_at a))
       (λ a. below? i next_process_at (λ b. rw (first (omega arith), lt-ltb i next_process_at b))
-      (λ b. below? i rule_at (λ c. rw (second (omega arith), le-ltb i next_process_at b))
-      (λ c. rw (le-ltb i next_process_at b, le-ltb i rule_at c))))
-
-  rule-same : (r : Rule) (i : ℕ) → (i ≡ rule_at → ⊥) → byte_of t i ≡ byte_of (with_rule t r) i
-  rule-same r i away = below? i rule_at (λ a. rw (lt-ltb i rule_at a)) (λ a. rw (le-ltb i rule_at a, le-ltb i (rule_at + 1) (omega arith)))
+      (λ b. below? i (next_process_at + 1) (λ c. rw (second (omega arith), le-ltb i next_process_at b))
+      (λ c. rw (le-ltb i next_process_at b, le-ltb i (next_process_at + 1) c))))
 
 -- Each field
 
@@ -165,11 +161,6 @@ module _ (bs : List ℕ) where
   next-process-turns p t st =
       put_byte t (with_next_process t p) bs st st.held next_process_at p (omega arith) refl
       (λ i q. cursor-same t t.next_semaphore p i (λ e. refl) (λ e. absurd (q e)))
-
-  -- no call does so: it tells what the same bytes are under the other rule
-  pub rule-turns : (r : Rule) → Turns (λ t. with_rule t r) bs (set bs rule_at (rule_byte r))
-  unfolding Turns
-  rule-turns r t st = put_byte t (with_rule t r) bs st st.held rule_at (rule_byte r) (omega arith) refl (rule-same t r)
 
 -- a semaphore written whole: its used flag, then its count
 pub semaphore-turns : (s : ℕ) (x : Semaphore) (a b c : List ℕ) → s < semaphore_limit → Turns (λ t. with_used t s x.used) a b → Turns (λ t. with_count t s x.count) b c → Turns (λ t. with_semaphore t s x) a c

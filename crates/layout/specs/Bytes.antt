@@ -1,11 +1,9 @@
 -- The tables as bytes, grouped by field, and back.
-use Rattle.std.specs.Prelude.{ℕ, ◌+◌, ◌*◌, ◌-◌, ◌/◌, ◌%◌, Bool, true, false, ◌&&◌, ◌||◌, List, get_or, length, eqb, ltb, ℤ}
+use Rattle.std.specs.Prelude.{ℕ, ◌+◌, ◌*◌, ◌-◌, ◌/◌, ◌%◌, Bool, true, false, ◌&&◌, List, get_or, length, eqb, ltb, ℤ}
 use Rattle.std.specs.Int.{w32}
 use Rattle.std.proofs.Common.{of_z, to_z}
 use Rattle.lists.specs.Lists.{if◌then◌else◌}
 use Rattle.lists.specs.Numbers.{listed, all}
-use Rattle.tables.specs.declared.Rule.{Rule}
-use Rattle.tables.specs.declared.Rule.TheVariants.{Releases, Refuses}
 use Rattle.tables.specs.declared.State.{State}
 use Rattle.tables.specs.declared.State.TheVariants.{Free, Current, Ready, Suspended, Waiting}
 use Rattle.tables.specs.declared.Process.{Process}
@@ -13,7 +11,7 @@ use Rattle.tables.specs.declared.Semaphore.{Semaphore}
 use Rattle.tables.specs.declared.Tables.{Tables}
 use Rattle.tables.specs.Limits.{process_limit, semaphore_limit}
 use Rattle.tables.specs.Readers.{state_of, priority_of, is_used, count_of}
-use Rattle.layout.specs.Offsets.{states_at, priorities_at, used_at, counts_at, order_at, next_semaphore_at, next_process_at, rule_at, size}
+use Rattle.layout.specs.Offsets.{states_at, priorities_at, used_at, counts_at, order_at, next_semaphore_at, next_process_at, size}
 
 -- the byte of waiting on semaphore 0
 abbrev pub waiting_from : ℕ
@@ -44,18 +42,6 @@ abbrev pub used_byte : Bool → ℕ
 used_byte true = 1
 used_byte false = 0
 
--- the byte of a rule: its number
-abbrev pub rule_byte : Rule → ℕ
-rule_byte Releases = 1
-rule_byte Refuses = 2
-
-abbrev pub byte_rule : ℕ → Rule
-byte_rule b = if eqb b 2 then Refuses else Releases
-
--- the rule is 1 or 2
-abbrev pub is_rule : ℕ → Bool
-is_rule n = eqb n 1 || eqb n 2
-
 -- byte d of a word, low byte first
 abbrev pub word_byte : ℕ → ℕ → ℕ
 word_byte n d =
@@ -77,8 +63,7 @@ byte_of t i =
     if ltb i order_at then word_byte (of_z w32 (count_of t ((i - counts_at) / 4))) ((i - counts_at) % 4) else
     if ltb i next_semaphore_at then get_or t.order (i - order_at) 0 else
     if ltb i next_process_at then t.next_semaphore else
-    if ltb i rule_at then t.next_process else
-    if ltb i (rule_at + 1) then rule_byte t.rule else
+    if ltb i (next_process_at + 1) then t.next_process else
     0
 
 unfoldable pub to_bytes : Tables → List ℕ
@@ -110,10 +95,9 @@ from_bytes bs =
       order = listed 0 process_limit (place_at bs);
       next_semaphore = get_or bs next_semaphore_at 0;
       next_process = get_or bs next_process_at 0;
-      rule = byte_rule (get_or bs rule_at 0);
     }
 
--- each state byte names a state, each used flag is 0 or 1, each place of the row names a process, the rule is 1 or 2, and nothing is missing or over
+-- each state byte names a state, each used flag is 0 or 1, each place of the row names a process, and nothing is missing or over
 abbrev pub state_named : List ℕ → ℕ → Bool
 state_named bs p = ltb (get_or bs (states_at + p) 0) (waiting_from + semaphore_limit)
 
@@ -123,8 +107,5 @@ flag_plain bs s = ltb (get_or bs (used_at + s) 0) 2
 abbrev pub place_named : List ℕ → ℕ → Bool
 place_named bs i = ltb (get_or bs (order_at + i) 0) process_limit
 
-abbrev pub rule_named : List ℕ → Bool
-rule_named bs = is_rule (get_or bs rule_at 0)
-
 unfoldable pub well_formed : List ℕ → Bool
-well_formed bs = eqb (length bs) size && (all process_limit (state_named bs) && (all semaphore_limit (flag_plain bs) && (all process_limit (place_named bs) && rule_named bs)))
+well_formed bs = eqb (length bs) size && (all process_limit (state_named bs) && (all semaphore_limit (flag_plain bs) && all process_limit (place_named bs)))

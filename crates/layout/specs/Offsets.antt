@@ -29,9 +29,5 @@ next_semaphore_at = order_at + process_limit
 abbrev pub next_process_at : ℕ
 next_process_at = next_semaphore_at + 1
 
--- the rule for delete
-abbrev pub rule_at : ℕ
-rule_at = next_process_at + 1
-
 abbrev pub size : ℕ
-size = rule_at + 1
+size = next_process_at + 1

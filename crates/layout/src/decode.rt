@@ -6,8 +6,7 @@ ghost use Rattle.layout.specs.Offsets.{size};
 ghost use Rattle.layout.specs.Bytes.{from_bytes, process_at, semaphore_at};
 
 use crate::fields::process_at;
-use crate::offsets::{COUNTS, NEXT_PROCESS, NEXT_SEMAPHORE, ORDER, RULE, USED};
-use crate::rule::byte_rule;
+use crate::offsets::{COUNTS, NEXT_PROCESS, NEXT_SEMAPHORE, ORDER, USED};
 use crate::word::{signed, word_at};
 use tables::{Process, Semaphore, State, Tables};
 
@@ -73,6 +72,5 @@ pub fn decode(bytes: &[u8]) -> Tables
         order: row_at(bytes, ORDER),
         next_semaphore: bytes[NEXT_SEMAPHORE],
         next_process: bytes[NEXT_PROCESS],
-        rule: byte_rule(bytes[RULE]),
     }
 }

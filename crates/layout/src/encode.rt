@@ -4,10 +4,7 @@ ghost use Rattle.tables.specs.Counts.{CountsFit};
 ghost use Rattle.layout.specs.Offsets.{size};
 ghost use Rattle.layout.specs.Bytes.{to_bytes};
 
-use crate::offsets::{
-    COUNTS, NEXT_PROCESS, NEXT_SEMAPHORE, ORDER, PRIORITIES, RULE, SIZE, STATES, USED,
-};
-use crate::rule::rule_byte;
+use crate::offsets::{COUNTS, NEXT_PROCESS, NEXT_SEMAPHORE, ORDER, PRIORITIES, SIZE, STATES, USED};
 use crate::state::state_byte;
 use crate::word::{unsigned, word_byte};
 use tables::Tables;
@@ -47,11 +44,6 @@ pub fn encode(bytes: &mut [u8], t: Tables)
             bytes[i] = t.next_semaphore;
             continue;
         }
-        if i < RULE {
-            bytes[i] = t.next_process;
-            continue;
-        }
-        let rule = t.rule;
-        bytes[i] = rule_byte(rule);
+        bytes[i] = t.next_process;
     }
 }

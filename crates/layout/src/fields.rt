@@ -7,11 +7,10 @@ ghost use Rattle.layout.specs.Offsets.{priorities_at, size};
 ghost use Rattle.layout.specs.Bytes.{process_at};
 ghost use Rattle.layout.specs.Stands.{Named, Turns, Tells};
 
-use crate::offsets::{COUNTS, NEXT_PROCESS, NEXT_SEMAPHORE, ORDER, PRIORITIES, RULE, STATES, USED};
-use crate::rule::byte_rule;
+use crate::offsets::{COUNTS, NEXT_PROCESS, NEXT_SEMAPHORE, ORDER, PRIORITIES, STATES, USED};
 use crate::state::{byte_state, state_byte};
 use crate::word::{put_word, signed, unsigned, word_at};
-use tables::{Process, Rule, State};
+use tables::{Process, State};
 
 pub fn process_at(bytes: &[u8], i: usize) -> Process
     requires { priorities_at + i < length bytes.now }
@@ -125,12 +124,4 @@ pub fn put_next_process(bytes: &mut [u8], p: u8)
     ensures { Turns (λ t. with_next_process t p) bytes.old bytes.new }
 {
     bytes[NEXT_PROCESS] = p;
-}
-
-// No call writes it.
-pub fn rule(bytes: &[u8]) -> Rule
-    requires { length bytes.now ≡ size }
-    ensures { Tells (λ t. t.rule) bytes.now result }
-{
-    byte_rule(bytes[RULE])
 }

@@ -1,8 +1,7 @@
-// The tables as 699 lent bytes, read and written where they stand.
+// The tables as 698 lent bytes, read and written where they stand.
 pub mod decode;
 pub mod encode;
 pub mod fields;
 pub mod offsets;
-pub mod rule;
 pub mod state;
 pub mod word;

@@ -1,6 +1,6 @@
 // Where each field begins. Only these say so, in code.
 ghost use Rattle.std.specs.Prelude.{◌≡◌};
-ghost use Rattle.layout.specs.Offsets.{states_at, priorities_at, used_at, counts_at, order_at, next_semaphore_at, next_process_at, rule_at, size};
+ghost use Rattle.layout.specs.Offsets.{states_at, priorities_at, used_at, counts_at, order_at, next_semaphore_at, next_process_at, size};
 
 use tables::Tables;
 
@@ -18,9 +18,7 @@ pub const NEXT_SEMAPHORE: usize = ORDER + Tables::PROCESSES;
 
 pub const NEXT_PROCESS: usize = NEXT_SEMAPHORE + 1;
 
-pub const RULE: usize = NEXT_PROCESS + 1;
-
-pub const SIZE: usize = RULE + 1;
+pub const SIZE: usize = NEXT_PROCESS + 1;
 
 #[derive(Drop)]
 pub struct Starts {
@@ -31,13 +29,12 @@ pub struct Starts {
     pub order: usize,
     pub next_semaphore: usize,
     pub next_process: usize,
-    pub rule: usize,
     pub size: usize,
 }
 
 // Ties the constants to the definitions that the layout is written with.
 pub fn offsets() -> Starts
-    ensures { result ≡ record { states = states_at; priorities = priorities_at; used = used_at; counts = counts_at; order = order_at; next_semaphore = next_semaphore_at; next_process = next_process_at; rule = rule_at; size = size } }
+    ensures { result ≡ record { states = states_at; priorities = priorities_at; used = used_at; counts = counts_at; order = order_at; next_semaphore = next_semaphore_at; next_process = next_process_at; size = size } }
 {
     Starts {
         states: STATES,
@@ -47,7 +44,6 @@ pub fn offsets() -> Starts
         order: ORDER,
         next_semaphore: NEXT_SEMAPHORE,
         next_process: NEXT_PROCESS,
-        rule: RULE,
         size: SIZE,
     }
 }

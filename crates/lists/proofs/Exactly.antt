@@ -1,14 +1,12 @@
 -- Tests that hold exactly when what they test is so. Assumes nothing.
 use Prim.Native.Nat.{ℕ}
-use mathlib.Core.Bool.{Bool, ◌&&◌, ◌||◌, false, false≢true, not, true}
-use mathlib.Core.List.{List, [], ◌∷◌, cons≢nil}
+use mathlib.Core.Bool.{Bool, ◌||◌, false, false≢true, not, true}
 use mathlib.Core.Logic.{◌⊎◌, ◌↔◌, inl, inr, ⊎_elim}
 use mathlib.Core.Path.{◌≡◌, refl}
 use lib.Dec.{T, eqb}
 use lib.IntN.{ℤ}
 use lib.Signed.{◌<ℤ◌, ◌≤ℤ◌, le_z, lt_z}
 use borrow.Author.Tests.{eq-eqb, eqb-true}
-use Rattle.lists.specs.Lists.{is_empty}
 
 -- the test b holds exactly when P is so
 abbrev pub Tests : Bool → Type 0 → Type 0
@@ -18,21 +16,12 @@ pub tests-or : {P Q : Type 0} (a b : Bool) → Tests a P → Tests b Q → Tests
 tests-or true b p q = (λ e. inl (p.0 refl), λ w. refl)
 tests-or false b p q = (λ e. inr (q.0 e), ⊎_elim (λ w. absurd (false≢true (p.1 w))) q.1)
 
-pub tests-and : {P Q : Type 0} (a b : Bool) → Tests a P → Tests b Q → Tests (a && b) (P × Q)
-tests-and true b p q = (λ e. (p.0 refl, q.0 e), λ w. q.1 w.1)
-tests-and false b p q = (λ e. absurd (false≢true e), λ w. absurd (false≢true (p.1 w.0)))
-
 pub tests-not : {P : Type 0} (b : Bool) → Tests b P → Tests (not b) (¬ P)
 tests-not true p = (λ e. absurd (false≢true e), λ n. absurd (n (p.0 refl)))
 tests-not false p = (λ e w. false≢true (p.1 w), λ n. refl)
 
 pub tests-eqb : (m n : ℕ) → Tests (eqb m n) (m ≡ n)
 tests-eqb m n = (eqb-true m n, eq-eqb m n)
-
-pub tests-empty : (xs : List ℕ) → Tests (is_empty xs) (xs ≡ [])
-unfolding is_empty
-tests-empty [] = (λ e. refl, λ e. refl)
-tests-empty (x ∷ xs) = (λ e. absurd (false≢true e), λ e. absurd (cons≢nil e))
 
 tests-T : (b : Bool) → Tests b (T b)
 tests-T true = (λ e. tt, λ w. refl)

@@ -10,7 +10,6 @@ use lib.IntN.{ℤ}
 use lib.ListN.{length}
 use borrow.Author.Tests.{eq-eqb}
 use Rattle.lists.specs.Lists.{if◌then◌else◌, place, times}
-use Rattle.tables.specs.declared.Rule.{Rule}
 use Rattle.tables.specs.declared.State.{State}
 use Rattle.tables.specs.declared.State.TheVariants.{Current, Free, Ready, Suspended, Waiting}
 use Rattle.tables.specs.declared.Semaphore.{Semaphore}
@@ -37,8 +36,8 @@ record Invariant (t : Tables) (es : List Entry) : Type 0 where
   sound : Sound t
   agrees : (r : ℕ) → Agree t r (account r es)
 
-pub start-boot : (r : Rule) → Start (boot r)
-start-boot r = record { sound = sound-boot r; unused = λ s. ap (λ (x : Semaphore). x.used) (entry-boot r s) }
+pub start-boot : Start boot
+start-boot = record { sound = sound-boot; unused = λ s. ap (λ (x : Semaphore). x.used) (entry-boot s) }
 
 module _ {start : Tables} (st : Start start) where
   begun : Invariant start []
@@ -133,9 +132,9 @@ demanded {t} {es} i =
 pub demand3-from : {start : Tables} → Start start → (requests : List Request) → Demand3 (after start requests) (record_of start requests)
 demand3-from st requests = demanded (invariant st requests)
 
--- and so from boot, under either rule
-pub demand3 : (r : Rule) (requests : List Request) → Demand3 (after (boot r) requests) (record_of (boot r) requests)
-demand3 r = demand3-from (start-boot r)
+-- and so from boot
+pub demand3 : (requests : List Request) → Demand3 (after boot requests) (record_of boot requests)
+demand3 = demand3-from start-boot
 
 -- so each queue is who the record says is still blocked
 pub demand3-queue : {t : Tables} {entries : List Entry} → Demand3 t entries → (s : ℕ) → queue t s ≡ blocked entries s

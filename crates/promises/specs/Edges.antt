@@ -1,7 +1,5 @@
 -- Both sides of each edge, in one table: a call on tables that a run from boot leaves, and what is seen before it and after it.
 use Rattle.std.specs.Prelude.{ℕ, List, [], ◌∷◌, ◌++◌, reverse, ℤ, pos, negsuc}
-use Rattle.tables.specs.declared.Rule.{Rule}
-use Rattle.tables.specs.declared.Rule.TheVariants.{Releases, Refuses}
 use Rattle.tables.specs.declared.Tables.{Tables}
 use Rattle.tables.specs.Readers.{current_of}
 use Rattle.tables.specs.Boot.{boot}
@@ -23,8 +21,6 @@ pub record Sight : Type 0 where
   pub running : ℕ
 
 pub record Edge : Type 0 where
-  -- the rule chosen at boot
-  pub rule : Rule
   -- the requests before it from boot, the first first
   pub before : List Request
   pub request : Request
@@ -35,7 +31,7 @@ pub record Edge : Type 0 where
 -- what the rules have there
 abbrev pub sight_of : Edge → Sight
 sight_of e =
-    let t : Tables = after (boot e.rule) (reverse e.before) in
+    let t : Tables = after boot (reverse e.before) in
     let o : Outcome = made t e.request in
     record {
       caller = current_of t;
@@ -64,31 +60,25 @@ minus3 = negsuc 2
 abbrev pub three_runs : ℤ → List Request
 three_runs c = call 6 (pos 20) ∷ call 6 (pos 20) ∷ call 6 (pos 20) ∷ call 7 (pos 3) ∷ call 3 c ∷ []
 
--- seven processes are made; 4 runs and waits on semaphore 0
-abbrev pub one_waits : List Request
-one_waits =
+-- seven processes are made; 4, 6 and 7 run and wait on semaphore 0 one after the other
+abbrev pub three_wait : List Request
+three_wait =
     call 6 (pos 20) ∷ call 6 (pos 20) ∷ call 6 (pos 20) ∷ call 6 (pos 20) ∷ call 6 (pos 20) ∷ call 6 (pos 20) ∷ call 6 (pos 20)
     ∷ call 3 (pos 0)
     ∷ call 7 (pos 4) ∷ call 1 (pos 0)
+    ∷ call 7 (pos 6) ∷ call 1 (pos 0)
+    ∷ call 7 (pos 7) ∷ call 1 (pos 0)
     ∷ []
 
--- then 6 and 7 one after the other
-abbrev pub three_wait : List Request
-three_wait = one_waits ++ call 7 (pos 6) ∷ call 1 (pos 0) ∷ call 7 (pos 7) ∷ call 1 (pos 0) ∷ []
-
--- Lines of the table, under rule 1: the requests before, the caller, the call
+-- Lines of the table: the requests before, the caller, the call
 
 -- it is done with a value, and semaphore 0 was and is seen so; who runs then
 abbrev pub does : List Request → ℕ → Request → ℤ → Seen → Seen → ℕ → Edge
-does qs p q v was is runs = record { rule = Releases; before = qs; request = q; semaphore = 0; sight = record { caller = p; was = was; refusal = 0; value = v; is = is; running = runs } }
+does qs p q v was is runs = record { before = qs; request = q; semaphore = 0; sight = record { caller = p; was = was; refusal = 0; value = v; is = is; running = runs } }
 
 -- it is refused with a number; semaphore s is seen as before, and the caller runs on
 abbrev pub refuses : List Request → ℕ → Request → ℕ → ℕ → Seen → Edge
-refuses qs p q n s was = record { rule = Releases; before = qs; request = q; semaphore = s; sight = record { caller = p; was = was; refusal = n; value = minus1; is = was; running = p } }
-
--- the same line under rule 2
-abbrev pub by_rule2 : Edge → Edge
-by_rule2 e = record { rule = Refuses; before = e.before; request = e.request; semaphore = e.semaphore; sight = e.sight }
+refuses qs p q n s was = record { before = qs; request = q; semaphore = s; sight = record { caller = p; was = was; refusal = n; value = minus1; is = was; running = p } }
 
 -- The table
 
@@ -134,20 +124,4 @@ edges =
     ∷ refuses three_wait 0 (call 8 (pos 6)) 19 0 (in_use minus3 (4 ∷ 6 ∷ 7 ∷ []))
     -- kill the second of waiters 4, 6, 7: count -3 becomes -2, queue 4, 7
     ∷ does three_wait 0 (call 9 (pos 6)) (pos 1) (in_use minus3 (4 ∷ 6 ∷ 7 ∷ [])) (in_use minus2 (4 ∷ 7 ∷ [])) 0
-    -- delete with waiters 4, 6, 7: under rule 1 they are released, and 4 runs; under rule 2 it is 20, and they wait
-    ∷ does three_wait 0 (call 4 (pos 0)) (pos 1) (in_use minus3 (4 ∷ 6 ∷ 7 ∷ [])) not_in_use 4
-    ∷ by_rule2 (refuses three_wait 0 (call 4 (pos 0)) 20 0 (in_use minus3 (4 ∷ 6 ∷ 7 ∷ [])))
-    -- without a waiter it is done under both
-    ∷ does (three_runs (pos 0)) 3 (call 4 (pos 0)) (pos 1) (in_use (pos 0) []) not_in_use 3
-    ∷ by_rule2 (does (three_runs (pos 0)) 3 (call 4 (pos 0)) (pos 1) (in_use (pos 0) []) not_in_use 3)
-    -- the last waiter killed: under rule 2 it is done too
-    ∷ by_rule2 (does (one_waits ++ call 9 (pos 4) ∷ []) 0 (call 4 (pos 0)) (pos 1) (in_use (pos 0) []) not_in_use 0)
-    ∷ by_rule2 (refuses one_waits 0 (call 4 (pos 0)) 20 0 (in_use minus1 (4 ∷ [])))
-    -- of 120 and of -1: 1, of 119, free: 2, not 20
-    ∷ by_rule2 (refuses three_wait 0 (call 4 (pos 120)) 1 0 (in_use minus3 (4 ∷ 6 ∷ 7 ∷ [])))
-    ∷ by_rule2 (refuses three_wait 0 (call 4 minus1) 1 0 (in_use minus3 (4 ∷ 6 ∷ 7 ∷ [])))
-    ∷ by_rule2 (refuses three_wait 0 (call 4 (pos 119)) 2 119 not_in_use)
-    -- reset with waiters 4, 6, 7 to 5: they are released under both, and 4 runs
-    ∷ does three_wait 0 (record { number = 5; a = pos 0; b = pos 5 }) (pos 1) (in_use minus3 (4 ∷ 6 ∷ 7 ∷ [])) (in_use (pos 5) []) 4
-    ∷ by_rule2 (does three_wait 0 (record { number = 5; a = pos 0; b = pos 5 }) (pos 1) (in_use minus3 (4 ∷ 6 ∷ 7 ∷ [])) (in_use (pos 5) []) 4)
     ∷ []

@@ -12,7 +12,6 @@ use mir.Syntax.{w32}
 use mir.Val.{SFits}
 use borrow.Author.Tests.{leb-false}
 use Rattle.lists.specs.Lists.{first, times}
-use Rattle.tables.specs.declared.Rule.{Rule}
 use Rattle.tables.specs.declared.Semaphore.{Semaphore}
 use Rattle.tables.specs.declared.Tables.{Tables}
 use Rattle.tables.specs.Limits.{process_limit}
@@ -40,8 +39,8 @@ use Rattle.rules.specs.Seen.{Seen}
 small : (n : ℕ) → n < 2147483648 → SFits w32 (pos n)
 small n h = record { sfits = h }
 
-pub fits-boot : (r : Rule) → CountsFit (boot r)
-fits-boot r = (λ s. rw (ap (λ (x : Semaphore). x.count) (entry-boot r s)) (small 0 (omega arith)))
+pub fits-boot : CountsFit boot
+fits-boot = (λ s. rw (ap (λ (x : Semaphore). x.count) (entry-boot s)) (small 0 (omega arith)))
 
 -- one less, where fewer wait than there are processes
 lowered-fits : (c : ℤ) (q : List ℕ) → SFits w32 c → Counted c q → length q < process_limit → SFits w32 (pred_ℤ c)

@@ -11,4 +11,3 @@ pub mod Changes
 pub mod Kept
 pub mod Fits
 pub mod Numbers
-pub mod Owners

@@ -118,7 +118,7 @@ checks-ranged : (t : Tables) (c : Call) → Each (λ k. k.holds ≡ true → may
 checks-ranged t (Wait a) = (λ h. refl, (λ h. refl, (λ h. refl, tt)))
 checks-ranged t (Signal a) = (λ h. refl, (λ h. refl, (λ h. refl, tt)))
 checks-ranged t (MakeSemaphore a) = (λ h. refl, (λ h. refl, tt))
-checks-ranged t (Delete a) = (λ h. refl, (λ h. refl, (λ h. refl, tt)))
+checks-ranged t (Delete a) = (λ h. refl, (λ h. refl, tt))
 checks-ranged t (Reset a b) = (λ h. refl, (λ h. refl, (λ h. refl, tt)))
 checks-ranged t (MakeProcess a) = (λ h. refl, (λ h. refl, tt))
 checks-ranged t (Resume a) = (λ h. refl, (λ h. refl, (λ h. state-ranged (state_of t (nat_abs a)), tt)))

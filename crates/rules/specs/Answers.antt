@@ -1,9 +1,7 @@
 -- Answers, and the paper's number and value for each.
 use Rattle.std.specs.Prelude.{ℕ, eqb, leb, ltb, ℤ, negsuc, Bool, true, false, not, ◌&&◌, ◌||◌, List, [], ◌∷◌, ◌≡◌}
 use Rattle.lists.specs.Lists.{Each, if◌then◌else◌}
-use Rattle.tables.specs.declared.Rule.{Rule}
 use Rattle.tables.specs.declared.Tables.{Tables}
-use Rattle.tables.specs.Setters.{with_rule}
 use Rattle.rules.specs.declared.Answer.{Answer}
 use Rattle.rules.specs.declared.Answer.TheVariants.{Done, Refused}
 use Rattle.rules.specs.declared.Outcome.{Outcome}
@@ -21,9 +19,9 @@ value_of (Refused n) = negsuc 0
 -- The numbers that a call on sound tables may be refused with
 
 abbrev pub last_refusal : ℕ
-last_refusal = 20
+last_refusal = 19
 
--- 12 is for a line of the bench, 15 for tables that aren't sound, 16 for the status page; 28, past the last, is for boot
+-- 12 is for a line of the bench, 15 for tables that aren't sound, 16 for the status page
 abbrev pub elsewhere : ℕ → Bool
 elsewhere n = eqb n 12 || eqb n 15 || eqb n 16
 
@@ -42,10 +40,6 @@ done v t = record { tables = t; answer = Done v }
 
 abbrev pub refused : ℕ → Tables → Outcome
 refused n t = record { tables = t; answer = Refused n }
-
--- with another rule in the tables
-abbrev pub under_rule : Rule → Outcome → Outcome
-under_rule r o = record { tables = with_rule o.tables r; answer = o.answer }
 
 -- a refusal number, given when its test holds
 infix 4 ◌when◌

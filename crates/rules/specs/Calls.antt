@@ -1,12 +1,10 @@
 -- The eleven calls: the checks in order, what is done, the value.
-use Rattle.std.specs.Prelude.{ℕ, suc, ℤ, pos, negsuc, nat_abs, eqb, Bool, true, false, not, ◌&&◌, ◌||◌, List, [], ◌∷◌}
+use Rattle.std.specs.Prelude.{ℕ, suc, ℤ, pos, negsuc, nat_abs, eqb, Bool, true, false, not, ◌||◌, List, [], ◌∷◌}
 use Rattle.std.proofs.Math.IntN.{suc_ℤ, pred_ℤ}
 use Rattle.std.specs.Int.Signed.{lt_z, le_z}
 use Rattle.std.proofs.Math.Option.{Option, none, some}
 use Rattle.lists.specs.Lists.{if◌then◌else◌, filter, is_empty, first}
 use Rattle.lists.specs.Numbers.{round_from}
-use Rattle.tables.specs.declared.Rule.{Rule}
-use Rattle.tables.specs.declared.Rule.TheVariants.{Releases, Refuses}
 use Rattle.tables.specs.declared.State.{State}
 use Rattle.tables.specs.declared.State.TheVariants.{Free, Current, Ready, Suspended, Waiting}
 use Rattle.tables.specs.declared.Process.{Process}
@@ -72,15 +70,6 @@ wrong_state right t a = let st : State = state_of t (nat_abs a) in state_refusal
 
 abbrev pub null_process : ℕ → Check
 null_process p = 10 when eqb p 0
-
--- by rule 2 a delete with waiters is an error
--- (document 001: some systems treat it so)
-abbrev pub forbids_waiters : Rule → Bool
-forbids_waiters Releases = false
-forbids_waiters Refuses = true
-
-abbrev pub still_awaited : Tables → ℤ → Check
-still_awaited t a = 20 when forbids_waiters t.rule && not (is_empty (queue t (nat_abs a)))
 
 -- Searches
 
@@ -149,7 +138,7 @@ abbrev pub checks : Tables → Call → List Check
 checks t (Wait a) = no_semaphore a ∷ not_used t a ∷ null_process (current_of t) ∷ []
 checks t (Signal a) = no_semaphore a ∷ not_used t a ∷ (5 when le_z largest (count_of t (nat_abs a))) ∷ []
 checks t (MakeSemaphore a) = no_count a ∷ (4 when is_empty (free_semaphores t)) ∷ []
-checks t (Delete a) = no_semaphore a ∷ not_used t a ∷ still_awaited t a ∷ []
+checks t (Delete a) = no_semaphore a ∷ not_used t a ∷ []
 checks t (Reset a b) = no_count b ∷ no_semaphore a ∷ not_used t a ∷ []
 checks t (MakeProcess a) = (11 when lt_z a (pos 1) || lt_z (pos priority_limit) a) ∷ (8 when is_empty (free_slots t)) ∷ []
 checks t (Resume a) = no_process a ∷ not_live t a ∷ wrong_state is_suspended t a ∷ []

@@ -1,5 +1,4 @@
 pub mod TargetLaws
 pub mod WaitSignalLaws
 pub mod ReleaseLaws
-pub mod DeleteLaws
 pub mod MakeLaws

@@ -9,14 +9,14 @@ use Rattle.layout.specs.Bytes.{waiting_from}
 use Rattle.layout.specs.Stands.{Stands, Tells, Turns}
 use Rattle.lists.specs.Lists.{is_empty}
 use Rattle.order.specs.Row.{by_byte, found}
-use Rattle.rules.specs.Calls.{Reset, below0, deed, finish, release, step}
+use Rattle.rules.specs.Calls.{Delete, Reset, below0, deed, finish, release, step}
 use Rattle.rules.specs.Schedule.{make_all_ready}
 use Rattle.scheduling.specs.Steps.{Leads}
 use Rattle.scheduling.specs.Waiters.{numbers}
 use Rattle.scheduling.specs.declared.step.Step.{Step}
 use Rattle.scheduling.specs.declared.step.Step.TheVariants.{Done, Refused, Switches}
 use Rattle.tables.specs.Limits.{process_limit, semaphore_limit}
-use Rattle.tables.specs.Readers.{line, queue}
+use Rattle.tables.specs.Readers.{free_semaphore, line, queue}
 use Rattle.tables.specs.Setters.{with_semaphore}
 use Rattle.tables.specs.declared.Semaphore.{Semaphore}
 use Rattle.tables.specs.declared.Tables.{Tables}
@@ -41,14 +41,18 @@ module _ (s : ℕ) (x : Semaphore) (h : s < semaphore_limit) (a : List ℕ) (w :
       let full : is_empty (queue t s) ≡ false = ap is_empty (sym (line-queue t s h) ∙ y.2) in
       (make_all_ready v (queue t s), rw full refl, subst (λ (q : List ℕ). Stands (make_all_ready v q) d) (picked t st ∙ line-queue t s h) (free v (put t st)), all-still S s x)
 
--- Reset
+-- The two calls
 
 module _ (z : ℤ) (s : ℕ) (a b : List ℕ) (r : Step) (w : Chosen z a (Used s)) where
+  pub delete-releases : Leads (λ t. finish (release t s free_semaphore)) a b r → Leads (λ t. step t (Delete z)) a b r
+  unfolding step Tells
+  delete-releases = alike (λ t. step t (Delete z)) (λ t. finish (release t s free_semaphore)) a b r (λ t st. rw (w.0, lt-leb semaphore_limit s w.1, sym (w.2 t st)) refl)
+
   pub reset-releases : (v : ℤ) → below0 v ≡ false → Leads (λ t. finish (release t s (record { used = true; count = v }))) a b r → Leads (λ t. step t (Reset z v)) a b r
   unfolding step Tells
   reset-releases v h = alike (λ t. step t (Reset z v)) (λ t. finish (release t s (record { used = true; count = v }))) a b r (λ t st. rw (h, w.0, lt-leb semaphore_limit s w.1, sym (w.2 t st)) refl)
 
--- it checks the count before the semaphore
+-- reset checks the count before the semaphore
 
 pub reset-3 : (a b : ℤ) (bs : List ℕ) → below0 b ≡ true → Leads (λ t. step t (Reset a b)) bs bs (Refused 3)
 unfolding step

@@ -7,7 +7,7 @@ use cottonsedge::value::call;
 use libc::STDOUT_FILENO;
 use lines::answer::{ANSWER, write_answer};
 use rules::Answer;
-use tables::{Rule, Tables};
+use tables::Tables;
 
 const WAIT: u8 = 1;
 
@@ -40,7 +40,7 @@ fn after(tables: Tables, number: u8, a: i32) -> Tables
 }
 
 fn main() {
-    let mut tables = Tables::boot(Rule::Releases);
+    let mut tables = Tables::boot();
     tables = after(tables, MAKE_PROCESS, 20);
     tables = after(tables, RESUME, 1);
     tables = after(tables, MAKE_SEMAPHORE, 0);

@@ -3,7 +3,7 @@ use Prim.Native.Nat.{suc, zero, ℕ}
 use mathlib.Core.Bool.{Bool, ◌&&◌, false, true}
 use mathlib.Core.List.{List}
 use mathlib.Core.Path.{◌≡◌, refl}
-use Rattle.layout.specs.Bytes.{flag_plain, place_named, rule_named, state_named}
+use Rattle.layout.specs.Bytes.{flag_plain, place_named, state_named}
 use Rattle.lists.specs.Numbers.{all}
 use Rattle.tables.specs.Limits.{process_limit, semaphore_limit}
 
@@ -13,12 +13,12 @@ and-mix true false true d = refl
 and-mix true false false d = refl
 and-mix false b c d = refl
 
-and-turn : (a b c d : Bool) → (((a && b) && c) && d) ≡ (a && (c && (b && d)))
-and-turn true true true d = refl
-and-turn true true false d = refl
-and-turn true false true d = refl
-and-turn true false false d = refl
-and-turn false b c d = refl
+and_last : (a b c : Bool) → ((a && b) && c) ≡ (a && (c && b))
+and_last true true true = refl
+and_last true true false = refl
+and_last true false true = refl
+and_last true false false = refl
+and_last false b c = refl
 
 all_both : (n : ℕ) (f g : ℕ → Bool) → all n (λ i. f i && g i) ≡ (all n f && all n g)
 unfolding all
@@ -35,5 +35,5 @@ module _ (bs : List ℕ) where
   abbrev places : Bool
   places = all process_limit (place_named bs)
 
-  pub form-said : ((all process_limit (λ i. state_named bs i && place_named bs i) && flags) && rule_named bs) ≡ (states && (flags && (places && rule_named bs)))
-  form-said = rw (all_both process_limit (state_named bs) (place_named bs)) (and-turn states places flags (rule_named bs))
+  pub form-said : (all process_limit (λ i. state_named bs i && place_named bs i) && flags) ≡ (states && (flags && places))
+  form-said = rw (all_both process_limit (state_named bs) (place_named bs)) (and_last states places flags)

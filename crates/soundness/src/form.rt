@@ -5,8 +5,7 @@ ghost use Rattle.tables.specs.Limits.{process_limit, semaphore_limit};
 ghost use Rattle.layout.specs.Offsets.{size};
 ghost use Rattle.layout.specs.Bytes.{state_named, flag_plain, place_named, well_formed};
 
-use layout::offsets::{ORDER, RULE, SIZE, STATES, USED};
-use layout::rule::is_rule;
+use layout::offsets::{ORDER, SIZE, STATES, USED};
 use layout::state::WAITING;
 use tables::Tables;
 
@@ -43,6 +42,5 @@ pub fn well_formed(bytes: &[u8]) -> bool
     }
     let named = both_named(bytes);
     let flags = flags_plain(bytes);
-    let rule = is_rule(bytes[RULE]);
-    named & flags & rule
+    named & flags
 }

@@ -18,13 +18,11 @@ use Rattle.lists.proofs.FallingLaws.{at_most-member, at_most-all, falls-both, bo
 use Rattle.lists.proofs.NumberLaws.{all-at, all_true}
 use Rattle.lists.proofs.Rows.{within, times-at, Row, row-times}
 use Rattle.tables.specs.declared.Process.{Process}
-use Rattle.tables.specs.declared.Rule.{Rule}
 use Rattle.tables.specs.declared.Semaphore.{Semaphore}
 use Rattle.tables.specs.declared.Tables.{Tables}
 use Rattle.tables.specs.Limits.{process_limit, semaphore_limit}
 use Rattle.tables.specs.States.{is_ready, awaits, is_the, waits_on}
-use Rattle.tables.specs.Readers.{process, state_of, priority_of, semaphore, is_used, count_of, ready_list, line, queue, currents, current_of}
-use Rattle.tables.specs.Setters.{with_rule}
+use Rattle.tables.specs.Readers.{process, state_of, priority_of, semaphore, is_used, count_of, ready_list, queue, currents, current_of}
 use Rattle.tables.specs.Sound.{SlotSound, Laid, Counted, Queued, Sound}
 use Rattle.tables.specs.Test.{shaped, once_each, is_semaphore, names_semaphore, null_fits, slot_fits, count_fits, semaphore_fits, semaphores_fit, ready_falls, clauses, all_of, sound_now}
 use Rattle.tables.proofs.States.{is-ready, awaits-some}
@@ -222,8 +220,3 @@ module _ {t : Tables} (S : Sound t) where
 
   pub sound-checked : sound_now t ≡ true
   sound-checked = passing t sound-passed
-
--- soundness doesn't look at the rule: either is sound
-pub sound-under : {t : Tables} → Sound t → (r : Rule) → Sound (with_rule t r)
-unfolding sound_now ready_falls semaphores_fit line
-sound-under {t} S r = checked-sound {t = with_rule t r} (sound-checked S)

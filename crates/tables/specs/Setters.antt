@@ -1,6 +1,5 @@
 -- How the tables are changed. No other file builds tables from their fields, but for `Boot`, and none a slot, but for the free one in `Readers`.
 use Rattle.std.specs.Prelude.{ℕ, set, ℤ, Bool, List}
-use Rattle.tables.specs.declared.Rule.{Rule}
 use Rattle.tables.specs.declared.State.{State}
 use Rattle.tables.specs.declared.Process.{Process}
 use Rattle.tables.specs.declared.Semaphore.{Semaphore}
@@ -23,19 +22,16 @@ new_slot n = ranked n (in_state Suspended free_slot)
 -- Tables
 
 abbrev pub with_processes : Tables → List Process → Tables
-with_processes t xs = record { processes = xs; semaphores = t.semaphores; order = t.order; next_semaphore = t.next_semaphore; next_process = t.next_process; rule = t.rule }
+with_processes t xs = record { processes = xs; semaphores = t.semaphores; order = t.order; next_semaphore = t.next_semaphore; next_process = t.next_process }
 
 abbrev pub with_semaphores : Tables → List Semaphore → Tables
-with_semaphores t xs = record { processes = t.processes; semaphores = xs; order = t.order; next_semaphore = t.next_semaphore; next_process = t.next_process; rule = t.rule }
+with_semaphores t xs = record { processes = t.processes; semaphores = xs; order = t.order; next_semaphore = t.next_semaphore; next_process = t.next_process }
 
 abbrev pub with_order : Tables → List ℕ → Tables
-with_order t xs = record { processes = t.processes; semaphores = t.semaphores; order = xs; next_semaphore = t.next_semaphore; next_process = t.next_process; rule = t.rule }
+with_order t xs = record { processes = t.processes; semaphores = t.semaphores; order = xs; next_semaphore = t.next_semaphore; next_process = t.next_process }
 
 abbrev pub with_cursors : Tables → ℕ → ℕ → Tables
-with_cursors t s p = record { processes = t.processes; semaphores = t.semaphores; order = t.order; next_semaphore = s; next_process = p; rule = t.rule }
-
-abbrev pub with_rule : Tables → Rule → Tables
-with_rule t r = record { processes = t.processes; semaphores = t.semaphores; order = t.order; next_semaphore = t.next_semaphore; next_process = t.next_process; rule = r }
+with_cursors t s p = record { processes = t.processes; semaphores = t.semaphores; order = t.order; next_semaphore = s; next_process = p }
 
 abbrev pub with_process : Tables → ℕ → Process → Tables
 with_process t p x = with_processes t (set t.processes p x)

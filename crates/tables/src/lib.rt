@@ -25,15 +25,6 @@ pub struct Semaphore {
     pub count: i32,
 }
 
-// What its owners want of the delete of a semaphore with waiters: chosen at boot, and changed by no call.
-#[derive(Drop)]
-pub enum Rule {
-    // Rule 1, document 01's: every waiter is released.
-    Releases,
-    // Rule 2: the delete is refused.
-    Refuses,
-}
-
 #[derive(Drop)]
 pub struct Tables {
     pub processes: [Process; Tables::PROCESSES],
@@ -42,7 +33,6 @@ pub struct Tables {
     pub order: [u8; Tables::PROCESSES],
     pub next_semaphore: u8,
     pub next_process: u8,
-    pub rule: Rule,
 }
 
 #[derive(Drop)]
@@ -81,8 +71,8 @@ impl Tables {
         }
     }
 
-    pub fn boot(rule: Rule) -> Tables
-        ensures { result ≡ boot_tables rule }
+    pub fn boot() -> Tables
+        ensures { result ≡ boot_tables }
     {
         let free = Process {
             state: State::Free,
@@ -103,7 +93,6 @@ impl Tables {
             order: rising(),
             next_semaphore: 0,
             next_process: 1,
-            rule,
         }
     }
 }

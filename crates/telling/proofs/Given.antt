@@ -13,16 +13,14 @@ use mir.Val.{SFits}
 use borrow.Author.Tests.{eqb-true, leb-true, ltb-true}
 use Rattle.lists.specs.Lists.{if◌then◌else◌, is_empty}
 use Rattle.lists.proofs.Bools.{not-true, not-false, split, either, below?}
-use Rattle.lists.proofs.Exactly.{Tests, tests-and, tests-empty, tests-or, tests-not, tests-eqb, tests-lt_z, tests-le_z}
+use Rattle.lists.proofs.Exactly.{Tests, tests-or, tests-not, tests-eqb, tests-lt_z, tests-le_z}
 use Rattle.lists.proofs.RoundLaws.{none_found, found_none}
-use Rattle.tables.specs.declared.Rule.{Rule}
-use Rattle.tables.specs.declared.Rule.TheVariants.{Releases, Refuses}
 use Rattle.tables.specs.declared.State.{State}
 use Rattle.tables.specs.declared.State.TheVariants.{Free, Current, Ready, Suspended, Waiting}
 use Rattle.tables.specs.declared.Tables.{Tables}
 use Rattle.tables.specs.Limits.{process_limit, semaphore_limit, priority_limit}
 use Rattle.tables.specs.States.{is_free, is_current, is_ready, is_suspended, is_waiting}
-use Rattle.tables.specs.Readers.{state_of, is_used, count_of, queue, current_of}
+use Rattle.tables.specs.Readers.{state_of, is_used, count_of, current_of}
 use Rattle.tables.specs.Sound.{Sound}
 use Rattle.tables.specs.Test.{sound_now}
 use Rattle.tables.specs.Counts.{CountsFit}
@@ -31,9 +29,9 @@ use Rattle.tables.proofs.TestLaws.{checked-sound, sound-checked}
 use Rattle.rules.specs.declared.Answer.TheVariants.{Refused}
 use Rattle.rules.specs.declared.Outcome.{Outcome}
 use Rattle.rules.specs.Answers.{Check, ◌when◌, Ranged, may_refuse, refused, unless}
-use Rattle.rules.specs.Calls.{Call, Wait, Signal, MakeSemaphore, Delete, Reset, MakeProcess, Resume, Suspend, Kill, Yield, Count, below0, outside, largest, no_semaphore, not_used, no_count, no_process, state_refusal, not_live, wrong_state, null_process, forbids_waiters, still_awaited, free_semaphores, free_slots, checks, deed, finish, step}
+use Rattle.rules.specs.Calls.{Call, Wait, Signal, MakeSemaphore, Delete, Reset, MakeProcess, Resume, Suspend, Kill, Yield, Count, below0, outside, largest, no_semaphore, not_used, no_count, no_process, state_refusal, not_live, wrong_state, null_process, free_semaphores, free_slots, checks, deed, finish, step}
 use Rattle.rules.specs.Enter.{Form, forms, form_of, is_zero, spare, call_of, called, numbered, enter}
-use Rattle.telling.specs.Reasons.{Reason, Exactly, FirstOf, no_such_semaphore, semaphore_free, count_below0, all_used, count_largest, no_such_process, slot_free, all_live, found_suspended, process0, no_such_priority, no_such_call, arguments_of, spare_argument, not_sound, found_current, found_ready, found_waiting, waiters_there, own_reasons, call_reasons, numbered_reasons, reasons}
+use Rattle.telling.specs.Reasons.{Reason, Exactly, FirstOf, no_such_semaphore, semaphore_free, count_below0, all_used, count_largest, no_such_process, slot_free, all_live, found_suspended, process0, no_such_priority, no_such_call, arguments_of, spare_argument, not_sound, found_current, found_ready, found_waiting, own_reasons, call_reasons, numbered_reasons, reasons}
 use Rattle.rules.proofs.Numbers.{number-known, number_past}
 use Rattle.rules.proofs.Refusals.{finish-done, AllFrom, number-has, numbered-ranged}
 
@@ -138,15 +136,6 @@ given-18 t a = (refl, (is-ready (state_of t (nat_abs a)), ap is_ready))
 pub given-19 : (t : Tables) (a : ℤ) → Exactly (19 when is_waiting (state_of t (nat_abs a))) (found_waiting t a)
 given-19 t a = (refl, (is-waiting (state_of t (nat_abs a)), λ h. ap is_waiting h.1))
 
-tests-forbids : (r : Rule) → Tests (forbids_waiters r) (r ≡ Refuses)
-tests-forbids Releases = (λ e. absurd (true≢false (sym e)), ap forbids_waiters)
-tests-forbids Refuses = (λ e. refl, λ e. refl)
-
-pub given-20 : (t : Tables) (a : ℤ) → Exactly (still_awaited t a) (waiters_there t a)
-given-20 t a =
-    let q : List ℕ = queue t (nat_abs a) in
-    (refl, tests-and (forbids_waiters t.rule) (not (is_empty q)) (tests-forbids t.rule) (tests-not (is_empty q) (tests-empty q)))
-
 -- A call's checks are its reasons, in the same order
 
 abbrev AllExactly : List Check → List Reason → Type 0
@@ -202,7 +191,7 @@ checks-given : {t : Tables} → Sound t → CountsFit t → (c : Call) → OneFo
 checks-given {t} S F (Wait a) = plainly (given-1 a, (given-2 t a, (given-10 (current_of t), tt)))
 checks-given {t} S F (Signal a) = plainly (given-1 a, (given-2 t a, (given-5 t a (F (nat_abs a)), tt)))
 checks-given S F (MakeSemaphore a) = plainly (given-3 a, (given-4 S, tt))
-checks-given {t} S F (Delete a) = plainly (given-1 a, (given-2 t a, (given-20 t a, tt)))
+checks-given {t} S F (Delete a) = plainly (given-1 a, (given-2 t a, tt))
 checks-given {t} S F (Reset a b) = plainly (given-3 b, (given-1 a, (given-2 t a, tt)))
 checks-given S F (MakeProcess a) = plainly (given-11 a, (given-8 S, tt))
 checks-given {t} S F (Resume a) = before (given-6 a) (resume-given t a)

@@ -8,4 +8,3 @@ pub mod Others
 pub mod Counts
 pub mod Telling
 pub mod Told
-pub mod Owners

@@ -2,13 +2,12 @@
 use Rattle.std.specs.Prelude.{ℕ, ◌≤◌, ◌<◌, Bool, true, false, ◌||◌, List, [], ◌∷◌, ◌≢◌, ◌↔◌, ◌⊎◌, ◌≡◌, eqb, ℤ, pos, nat_abs, ◌≤ℤ◌, ◌<ℤ◌}
 use Rattle.std.proofs.Math.Option.{Option, none, some}
 use Rattle.lists.specs.Lists.{if◌then◌else◌}
-use Rattle.tables.specs.declared.Rule.TheVariants.{Refuses}
 use Rattle.tables.specs.declared.State.{State}
 use Rattle.tables.specs.declared.State.TheVariants.{Free, Current, Ready, Suspended, Waiting}
 use Rattle.tables.specs.declared.Tables.{Tables}
 use Rattle.tables.specs.Limits.{process_limit, semaphore_limit, priority_limit}
 use Rattle.tables.specs.States.{is_free, is_current, is_ready, is_suspended, is_waiting}
-use Rattle.tables.specs.Readers.{state_of, is_used, count_of, queue, current_of}
+use Rattle.tables.specs.Readers.{state_of, is_used, count_of, current_of}
 use Rattle.tables.specs.Sound.{Sound}
 use Rattle.rules.specs.Answers.{Check}
 use Rattle.rules.specs.Calls.{Call, Wait, Signal, MakeSemaphore, Delete, Reset, MakeProcess, Resume, Suspend, Kill, Yield, Count}
@@ -32,7 +31,7 @@ abbrev pub FirstOf : List Reason → ℕ → Type 0
 FirstOf [] n = ⊥
 FirstOf (r ∷ rs) n = ((r.number ≡ n) × r.holds) ⊎ ((¬ r.holds) × FirstOf rs n)
 
--- The table. 12 is for a line of the bench, 16 for the status page, 28 for boot
+-- The table. 12 is for a line of the bench, 16 for the status page
 
 -- 1: semaphore number below 0 or above 119
 abbrev pub no_such_semaphore : ℤ → Reason
@@ -106,10 +105,6 @@ found_ready t a = 18 given state_of t (nat_abs a) ≡ Ready
 abbrev pub found_waiting : Tables → ℤ → Reason
 found_waiting t a = 19 given ((s : ℕ) × (state_of t (nat_abs a) ≡ Waiting s))
 
--- 20: delete under rule 2 with a waiter
-abbrev pub waiters_there : Tables → ℤ → Reason
-waiters_there t a = 20 given (t.rule ≡ Refuses) × (queue t (nat_abs a) ≢ [])
-
 -- The order
 
 -- a call's own
@@ -117,7 +112,7 @@ abbrev pub own_reasons : Tables → Call → List Reason
 own_reasons t (Wait a) = no_such_semaphore a ∷ semaphore_free t a ∷ process0 (current_of t) ∷ []
 own_reasons t (Signal a) = no_such_semaphore a ∷ semaphore_free t a ∷ count_largest t a ∷ []
 own_reasons t (MakeSemaphore a) = count_below0 a ∷ all_used t ∷ []
-own_reasons t (Delete a) = no_such_semaphore a ∷ semaphore_free t a ∷ waiters_there t a ∷ []
+own_reasons t (Delete a) = no_such_semaphore a ∷ semaphore_free t a ∷ []
 own_reasons t (Reset a b) = count_below0 b ∷ no_such_semaphore a ∷ semaphore_free t a ∷ []
 own_reasons t (MakeProcess a) = no_such_priority a ∷ all_live t ∷ []
 own_reasons t (Resume a) = no_such_process a ∷ slot_free t a ∷ found_current t a ∷ found_ready t a ∷ found_waiting t a ∷ []

@@ -1,5 +1,5 @@
 -- Words to tell what a call leaves: how each semaphore is seen, who is ready in which order, and who runs.
-use Rattle.std.specs.Prelude.{ℕ, ◌≤◌, ◌<◌, true, List, [], ◌∷◌, ◌++◌, ◌≢◌, ◌≡◌, ltb, ℤ, nat_abs, pos}
+use Rattle.std.specs.Prelude.{ℕ, ◌≤◌, ◌<◌, true, List, [], ◌∷◌, ◌++◌, ◌≢◌, ◌≡◌, ltb, ℤ, pos}
 use Rattle.lists.specs.Lists.{if◌then◌else◌, put_before, times, is_empty, first}
 use Rattle.tables.specs.declared.Tables.{Tables}
 use Rattle.tables.specs.Readers.{priority_of, ready_list, queue, currents}
@@ -25,14 +25,6 @@ pub record MakesNothing (c : Call) : Type 0 where
 pub record CountGoesOn (c : Call) (s : ℕ) : Type 0 where
   pub undeleted : c ≢ Delete (pos s)
   pub unreset : (b : ℤ) → c ≢ Reset (pos s) b
-
--- nobody waits on any semaphore
-abbrev pub NobodyWaits : Tables → Type 0
-NobodyWaits t = (s : ℕ) → queue t s ≡ []
-
--- the call deletes no semaphore with waiters
-abbrev pub DeletesNoneAwaited : Tables → Call → Type 0
-DeletesNoneAwaited t c = (a : ℤ) → c ≡ Delete a → queue t (nat_abs a) ≡ []
 
 -- the call neither makes process x nor kills it
 pub record Spares (t : Tables) (c : Call) (x : ℕ) : Type 0 where

@@ -5,7 +5,7 @@ use Rattle.layout.proofs.decode.decode.Tie as tie
 
 returns : tie.Need-returns
 unfolding from_bytes
-returns c = rw (c.before.before.before.before.before.before.processes.ensures, c.before.before.before.before.before.semaphores.ensures, c.before.before.before.before.row_at.ensures, c.byte-rule.ensures)
+returns c = rw (c.before.before.before.before.processes.ensures, c.before.before.before.semaphores.ensures, c.before.before.row_at.ensures)
 
 pub decode-spec : {M : Type 1} → statement M
 decode-spec =
@@ -16,6 +16,4 @@ decode-spec =
     (λ c κs. search rules)
     (λ c. search rules)
     (λ c. search rules)
-    (λ c. search rules)
-    (λ c κs. search rules)
     returns)

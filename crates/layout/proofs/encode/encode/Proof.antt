@@ -11,7 +11,7 @@ use borrow.Author.Rules.{rules}
 use Rattle.tables.specs.Limits.{semaphore_limit}
 use Rattle.tables.specs.Readers.{count_of, is_used}
 use Rattle.layout.specs.Bytes.{byte_of, word_byte}
-use Rattle.layout.specs.Offsets.{counts_at, next_process_at, next_semaphore_at, order_at, priorities_at, rule_at, size, states_at, used_at}
+use Rattle.layout.specs.Offsets.{counts_at, next_process_at, next_semaphore_at, order_at, priorities_at, size, states_at, used_at}
 use Rattle.layout.proofs.Image.{unmapped}
 use Rattle.layout.proofs.Readers.{bool-byte}
 use Rattle.layout.proofs.Regions.{count-byte, place_byte, priority-byte, state-byte, used-byte}
@@ -84,20 +84,11 @@ loop-again-6 c =
 
 loop-again-7 : tie.Need-loop-preserved-7 invariant-loop decreases-loop
 loop-again-7 c =
-    let t = c.before.before.before.before.before.before.before.before.before.before.args.t2 in
-    let loop = c.before.before.before.before.before.before.before.before.loop in
+    let t = c.before.before.before.before.before.before.before.before.before.args.t2 in
+    let loop = c.before.before.before.before.before.before.before.loop in
     let i = loop.i in
     let e : i ≡ next_process_at = omega arith in
     let same = ap (byte_of t) (sym e) in
-    byte-written t loop.bytes i _ loop.invariant (omega arith) same (λ lo hi. omega arith)
-
-loop-again-8 : tie.Need-loop-preserved-8 invariant-loop decreases-loop
-loop-again-8 c =
-    let t = c.before.before.before.before.before.before.before.before.before.before.before.args.t2 in
-    let loop = c.before.before.before.before.before.before.before.before.before.loop in
-    let i = loop.i in
-    let e : i ≡ rule_at = omega arith in
-    let same = c.rule-byte.ensures ∙ ap (byte_of t) (sym e) in
     byte-written t loop.bytes i _ loop.invariant (omega arith) same (λ lo hi. omega arith)
 
 returns : tie.Need-returns invariant-loop decreases-loop
@@ -155,10 +146,5 @@ encode-spec =
     (λ c. search rules)
     (λ c. search rules)
     loop-again-7
-    (λ c κs. search rules)
-    (λ c. search rules)
-    (λ c. search rules)
-    (λ c. search rules)
-    loop-again-8
     (λ c. search rules)
     returns)

@@ -14,9 +14,9 @@ returns c = sym (rw (ne_eqb _ size c.if1.true))
 returns-2 : tie.Need-returns-2
 unfolding well_formed
 returns-2 c =
-    let bs = c.before.before.before.before.before.before.args.bytes.now in
-    rw (eq-eqb _ size c.before.before.before.before.if1.false, c.before.before.before.both-named.ensures, c.before.before.flags-plain.ensures, c.is-rule.ensures) (form-said bs)
+    let bs = c.before.before.before.before.args.bytes.now in
+    rw (eq-eqb _ size c.before.before.if1.false, c.before.both-named.ensures, c.flags-plain.ensures) (form-said bs)
 
 pub well-formed-spec : {M : Type 1} → statement M
 well-formed-spec =
-    tie.close (tie.spec returns (λ c κs. search rules) (λ c κs. search rules) (λ c. search rules) (λ c κs. search rules) returns-2)
+    tie.close (tie.spec returns (λ c κs. search rules) (λ c κs. search rules) returns-2)

@@ -8,7 +8,7 @@ use Rattle.tables.proofs.Tables.boot.Tie as tie
 
 returns : tie.Need-returns
 unfolding boot
-returns c = ap (with_order (boot _)) c.rising.ensures
+returns c = ap (with_order boot) c.rising.ensures
 
 pub boot-spec : {M : Type 1} → statement M
 boot-spec = tie.close (tie.spec (λ c. search rules) (λ c κs. search rules) returns)
