@@ -1,3 +1,4 @@
+#![tactic(auto)]
 // The tables as 698 lent bytes, read and written where they stand.
 pub mod decode;
 pub mod encode;

@@ -87,7 +87,7 @@ searched f (x ∷ xs) h =
     (λ e.
     let w = searched f xs (rw e at h) in
     let r : FirstAt f xs (first (filter f xs)) w.0 = w.1 in
-    rw e (suc w.0, record { inside = omega arith; here = r.here; passes = r.passes; before = λ j. elim j [ zero ↦ λ l. e | suc i ↦ λ l. r.before i (omega arith) ] }))
+    rw e (suc w.0, record { inside = omega arith; here = r.here; passes = r.passes; before = λ j. elim j as (λ k. k < suc w.0 → f (get_or (x ∷ xs) k 0) ≡ false) [ zero ↦ λ l. e | suc i ↦ λ l. r.before i (omega arith) ] }))
 
 pub round-length : (size k : ℕ) → k < size → length (round_from size k) ≡ size
 unfolding round_from

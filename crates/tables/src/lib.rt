@@ -1,9 +1,11 @@
+#![tactic(auto)]
+
 ghost use Rattle.std.specs.Prelude.{◌≡◌};
 ghost use Rattle.lists.specs.Numbers.{count_up};
 ghost use Rattle.tables.specs.Limits.{process_limit, semaphore_limit, priority_limit};
 ghost use Rattle.tables.specs.Boot.{boot as boot_tables};
 
-#[derive(Drop)]
+#[derive(Clone, Copy)]
 pub enum State {
     Free,
     Current,
@@ -13,13 +15,13 @@ pub enum State {
     Waiting(u8),
 }
 
-#[derive(Drop)]
+#[derive(Clone, Copy)]
 pub struct Process {
     pub state: State,
     pub priority: u8,
 }
 
-#[derive(Drop)]
+#[derive(Clone, Copy)]
 pub struct Semaphore {
     pub used: bool,
     pub count: i32,
