@@ -1,4 +1,6 @@
 // The rules' answers. The rules themselves are in specs/, and code that meets them in `semaphores`, `processes` and `kernel`.
+#![tactic(auto)]
+
 use tables::Tables;
 
 // A call is answered either with a value or with one refusal number.

@@ -35,7 +35,7 @@ FirstOf (r ∷ rs) n = ((r.number ≡ n) × r.holds) ⊎ ((¬ r.holds) × FirstO
 
 -- 1: semaphore number below 0 or above 119
 abbrev pub no_such_semaphore : ℤ → Reason
-no_such_semaphore a = 1 given (a <ℤ pos 0) ⊎ (pos semaphore_limit ≤ℤ a)
+no_such_semaphore a = 1 given ((a <ℤ pos 0) ⊎ (pos semaphore_limit ≤ℤ a))
 
 -- 2: that semaphore is free
 abbrev pub semaphore_free : Tables → ℤ → Reason
@@ -55,7 +55,7 @@ count_largest t a = 5 given count_of t (nat_abs a) ≡ pos 2147483647
 
 -- 6: process number below 0 or above 31
 abbrev pub no_such_process : ℤ → Reason
-no_such_process a = 6 given (a <ℤ pos 0) ⊎ (pos process_limit ≤ℤ a)
+no_such_process a = 6 given ((a <ℤ pos 0) ⊎ (pos process_limit ≤ℤ a))
 
 -- 7: that slot is free
 abbrev pub slot_free : Tables → ℤ → Reason
@@ -75,11 +75,11 @@ process0 p = 10 given p ≡ 0
 
 -- 11: priority below 1 or above 63
 abbrev pub no_such_priority : ℤ → Reason
-no_such_priority a = 11 given (a <ℤ pos 1) ⊎ (pos priority_limit <ℤ a)
+no_such_priority a = 11 given ((a <ℤ pos 1) ⊎ (pos priority_limit <ℤ a))
 
 -- 13: call number not in 01 to 0b
 abbrev pub no_such_call : ℕ → Reason
-no_such_call n = 13 given (n < 1) ⊎ (11 < n)
+no_such_call n = 13 given ((n < 1) ⊎ (11 < n))
 
 -- how many arguments the call with this number uses: reset, 05, both, yield, 0a, none, the others the first
 abbrev pub arguments_of : ℕ → ℕ
@@ -87,7 +87,7 @@ arguments_of n = if eqb n 5 then 2 else if eqb n 10 then 0 else 1
 
 -- 14: an argument the call doesn't use isn't 0
 abbrev pub spare_argument : ℕ → ℤ → ℤ → Reason
-spare_argument n a b = 14 given ((b ≢ pos 0) × (arguments_of n < 2)) ⊎ ((a ≢ pos 0) × (arguments_of n < 1))
+spare_argument n a b = 14 given (((b ≢ pos 0) × (arguments_of n < 2)) ⊎ ((a ≢ pos 0) × (arguments_of n < 1)))
 
 -- 15: the tables aren't sound
 abbrev pub not_sound : Tables → Reason

@@ -1,0 +1,19 @@
+use Prim.Native.Nat.{◌+◌, ◌-◌, ◌<◌, ◌≤◌, ℕ}
+use native.Mathlib.Omega.{arith}
+use mathlib.Core.Path.{◌∙◌, ◌≡◌, sym}
+use lib.ListN.{get_or, length}
+use Rattle.layout.specs.Bytes.{count_at, from_bytes}
+use Rattle.layout.specs.Offsets.{size}
+use Rattle.lists.specs.Numbers.{all}
+use Rattle.tables.specs.Limits.{semaphore_limit}
+use Rattle.layout.proofs.Image.{semaphore-said}
+use Rattle.lists.proofs.NumberLaws.{all-next, all_none}
+use Rattle.queues.specs.Squeeze.{block_limit}
+use Rattle.queues.specs.Tallies.{counted_fits}
+use Rattle.queues.proofs.counts.block_fits.Given as goal
+
+abbrev pub invariant-loop-i : goal.invariant-loop-i
+invariant-loop-i l = (l.i ≤ block_limit) × (l.ok ≡ all l.i (λ j. counted_fits (from_bytes l.bytes) l.many l.more (l.from + j))) × (length l.bytes ≡ size) × (l.from + block_limit ≤ semaphore_limit)
+
+abbrev pub decreases-loop-i : goal.decreases-loop-i
+decreases-loop-i l = block_limit - l.i
