@@ -1,0 +1,12 @@
+use Prim.Native.Nat.{◌+◌, ◌-◌, ◌≤◌}
+use native.Mathlib.Omega.{arith}
+use mathlib.Core.Logic.{⊎_elim}
+use Rattle.tables.specs.Limits.{process_limit}
+use Rattle.order.proofs.Found.{CountsTo, count-end, count-here, count-over, count_past, count-start}
+use Rattle.order.proofs.row.place_among.Given as goal
+
+abbrev pub invariant-loop-i : goal.invariant-loop-i
+invariant-loop-i l = (l.i ≤ process_limit) × (l.n ≤ l.i + 1) × CountsTo l.b l.p l.i l.n l.bytes
+
+abbrev pub decreases-loop-i : goal.decreases-loop-i
+decreases-loop-i l = process_limit - l.i

@@ -1,0 +1,10 @@
+use Prim.Native.Nat.{◌-◌, ◌<◌}
+use Rattle.tables.specs.Limits.{process_limit}
+use Rattle.order.proofs.Spots.{Looks, look-on, look-start, spot-end, spot-p, spot-passes}
+use Rattle.order.proofs.row.spot.Given as goal
+
+abbrev pub invariant-loop-i : goal.invariant-loop-i
+invariant-loop-i l = (l.i < process_limit) × Looks l.p l.level l.i l.bytes
+
+abbrev pub decreases-loop-i : goal.decreases-loop-i
+decreases-loop-i l = process_limit - l.i

@@ -1,0 +1,27 @@
+-- The flag says that the states and the places below i are named. Assumes nothing.
+use Prim.Native.Nat.{◌-◌, ◌≤◌}
+use native.Mathlib.Omega.{arith}
+use mathlib.Core.Bool.{◌&&◌}
+use mathlib.Core.Path.{◌≡◌, refl, sym}
+use lib.ListN.{length}
+use Rattle.layout.specs.Bytes.{place_named, state_named}
+use Rattle.layout.specs.Offsets.{size}
+use Rattle.lists.specs.Numbers.{all}
+use Rattle.tables.specs.Limits.{process_limit}
+use Rattle.lists.proofs.NumberLaws.{all-next, all_none}
+use borrow.Author.Rules.{rules}
+use Rattle.soundness.proofs.form.both_named.Goals as goal
+
+pub loop-i-init : goal.loop-i-init
+loop-i-init c = (search rules, sym (all_none _), search rules)
+
+pub loop-i-preserved : goal.loop-i-preserved
+loop-i-preserved c =
+    let bs = c.args.bytes.now in
+    let loop = c.loop-i in
+    (search rules, all-next (λ j. state_named bs j && place_named bs j) loop.i _ _ loop.invariant.1 refl, search rules)
+
+pub returns : goal.returns
+returns c =
+    let k : c.loop-i.i ≡ process_limit = omega arith in
+    rw k at c.loop-i.invariant.1
