@@ -1,4 +1,6 @@
 // The status page: one row for each live process.
+#![tactic(auto)]
+
 pub mod live;
 pub mod page;
 

@@ -13,13 +13,11 @@ loop-j-init c = (search rules, search rules, rise-start _ _ _)
 
 pub returns-then-x-p : goal.returns-then-x-p
 returns-then-x-p c =
-    let at-loop = c in
-    rise-stop _ _ _ _ _ _ at-loop.loop.invariant.2 _ c.put_place.ensures (search rules) _ c.place-x.ensures c.if-x-p.true
+    rise-stop _ _ _ _ _ _ c.loop-j.invariant.2 _ c.put_place.ensures (search rules) _ c.place-x.ensures c.if-x-p.true
 
 pub loop-j-preserved : goal.loop-j-preserved
 loop-j-preserved c =
-    let at-loop = c in
-    (search rules, search rules, rise-on _ _ _ _ _ _ at-loop.loop.invariant.2 _ c.put_place.ensures (search rules) _ c.place-x.ensures c.if-x-p.false)
+    (search rules, search rules, rise-on _ _ _ _ _ _ c.loop-j.invariant.2 _ c.put_place.ensures (search rules) _ c.place-x.ensures c.if-x-p.false)
 
 pub returns : goal.returns
 returns c = rise-end _ _ _ _ _ _ c.loop-j.invariant.2 _ (search rules) (search rules) c.put_place-2.ensures

@@ -13,6 +13,7 @@ use Rattle.soundness.specs.Sums.{sum_below}
 use Rattle.soundness.proofs.StateBytes.{current-more, current-same, currents-small}
 use borrow.Author.Rules.{rules}
 use Rattle.soundness.proofs.running.weight.Goals as goal
+use Rattle.soundness.proofs.running.weight.Goals.{then-bytes-i-eq-CURRENT, else-bytes-i-eq-CURRENT}
 
 pub loop-i-init : goal.loop-i-init
 loop-i-init c = (search rules, sym (total-none _), search rules)
@@ -31,7 +32,9 @@ loop-i-preserved c =
     let i = loop.i in
     let more = current-more bs (λ p. process_limit + p) i _ (omega arith) loop.invariant.1 in
     let same = current-same bs (λ p. process_limit + p) i _ (omega arith) loop.invariant.1 in
-    (search rules, ⊎_elim (λ w. w.1 ∙ more w.0.taken) (λ w. w.1 ∙ same w.0.left) c.if-bytes-i-eq-CURRENT.branch, search rules)
+    elim c.if-bytes-i-eq-CURRENT.branch [
+      then-bytes-i-eq-CURRENT w ↦ (search rules, w.sum-is ∙ more w.if-bytes-i-eq-CURRENT.true, search rules)
+      | else-bytes-i-eq-CURRENT w ↦ (search rules, w.sum-is ∙ same w.if-bytes-i-eq-CURRENT.false, search rules) ]
 
 pub returns : goal.returns
 returns c =

@@ -1,0 +1,7 @@
+use Rattle.scheduling.proofs.ScheduleLaws.{ready-turns}
+use Rattle.scheduling.proofs.schedule.make_ready.Goals as goal
+
+pub returns : goal.returns
+returns c =
+    let at-process = c in
+    ready-turns _ _ _ _ _ at-process.process-x.ensures c.reposition.ensures c.put_state.ensures

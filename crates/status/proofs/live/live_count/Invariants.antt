@@ -1,0 +1,12 @@
+use Prim.Native.Nat.{◌-◌, ◌≤◌}
+use native.Mathlib.Omega.{arith}
+use mathlib.Core.Logic.{⊎_elim}
+use Rattle.tables.specs.Limits.{process_limit}
+use Rattle.status.proofs.LiveLaws.{CountsLive, counted-end, counted-in, counted-over, counted_start}
+use Rattle.status.proofs.live.live_count.Given as goal
+
+abbrev pub invariant-loop-p : goal.invariant-loop-p
+invariant-loop-p l = (l.p ≤ process_limit) × (l.many ≤ l.p) × CountsLive l.p l.many l.bytes
+
+abbrev pub decreases-loop-p : goal.decreases-loop-p
+decreases-loop-p l = process_limit - l.p
