@@ -13,35 +13,32 @@ use Rattle.processes.proofs.ProcessLaws.{process-outside, refused-by, resume-by,
 use Rattle.arguments.proofs.IndexLaws.{passed}
 use borrow.Author.Rules.{rules}
 use Rattle.processes.proofs.resume.resume.Goals as goal
+use Rattle.processes.proofs.resume.resume.Goals.{After-process-x}
 
 -- the slot has been looked at, and its state is one that a resume isn't for
-wrong-state : (c : goal.After-process) (k : State) → ((t : Tables) → resumed c.index.given.0.0 t k ≡ refused (state_refusal k) t) → c.process.result.state ≡ k
+wrong-state : (c : After-process-x) (k : State) → ((t : Tables) → resumed c.in-At.p t k ≡ refused (state_refusal k) t) → c.process-x.result.state ≡ k
     → Leads (λ t. step t (Resume c.args.a)) c.args.bytes.now c.args.bytes.now (Refused (state_refusal k))
 wrong-state c k =
-    let start = c in
-    let at = passed _ _ _ _ start.ranges.a c.index_below.ensures c.index.given.1 in
-    refused-by start.args.a _ at _ _ c.process.ensures (Resume start.args.a) (resumed _) (resume-by start.args.a _ at) k
+    let at = passed _ _ _ _ c.ranges.a c.index_below-index.ensures c.in-At.is in
+    refused-by c.args.a _ at _ _ c.process-x.ensures (Resume c.args.a) (resumed _) (resume-by c.args.a _ at) k
 
 pub returns-in-Outside : goal.returns-in-Outside
 returns-in-Outside c =
-    let start = c in
-    process-outside (Resume start.args.a) start.args.a _ (λ t. refl) (passed _ _ _ _ start.ranges.a c.index_below-index.ensures c.in-Outside.is)
+    process-outside (Resume c.args.a) c.args.a _ (λ t. refl) (passed _ _ _ _ c.ranges.a c.index_below-index.ensures c.in-Outside.is)
 
 pub returns-in-Free : goal.returns-in-Free
-returns-in-Free c = wrong-state c Free (λ t. refl) c.in-Free.is
+returns-in-Free c = wrong-state (goal.at.returns-in-Free c).After-process-x Free (λ t. refl) c.in-Free.is
 
 pub returns-in-Current : goal.returns-in-Current
-returns-in-Current c = wrong-state c Current (λ t. refl) c.in-Current.is
+returns-in-Current c = wrong-state (goal.at.returns-in-Current c).After-process-x Current (λ t. refl) c.in-Current.is
 
 pub returns-in-Ready : goal.returns-in-Ready
-returns-in-Ready c = wrong-state c Ready (λ t. refl) c.in-Ready.is
+returns-in-Ready c = wrong-state (goal.at.returns-in-Ready c).After-process-x Ready (λ t. refl) c.in-Ready.is
 
 pub returns-in-Suspended : goal.returns-in-Suspended
 returns-in-Suspended c =
-    let at-process = c in
-    let start = at-process in
-    let at = passed _ _ _ _ start.ranges.a at-process.index_below-index.ensures at-process.in-At.is in
-    resume-done start.args.a _ at _ _ at-process.process-x.ensures _ _ (to_z_pos w32 at-process.process-x.result.priority (search rules)) c.in-Suspended.is c.make_ready.ensures
+    let at = passed _ _ _ _ c.ranges.a c.index_below-index.ensures c.in-At.is in
+    resume-done c.args.a _ at _ _ c.process-x.ensures _ _ (to_z_pos w32 c.process-x.result.priority (search rules)) c.in-Suspended.is c.make_ready.ensures
 
 pub returns-in-Waiting : goal.returns-in-Waiting
-returns-in-Waiting c = wrong-state c _ (λ t. refl) c.in-Waiting.is
+returns-in-Waiting c = wrong-state (goal.at.returns-in-Waiting c).After-process-x _ (λ t. refl) c.in-Waiting.is
