@@ -2,7 +2,7 @@
 ghost use Rattle.std.specs.Prelude.{◌≡◌};
 ghost use Rattle.arguments.specs.Index.{index_below};
 
-#[derive(Drop)]
+#[derive(Clone, Copy)]
 pub enum Index {
     At(u8),
     Outside,

@@ -7,7 +7,7 @@ use libc::{STDIN_FILENO, STDOUT_FILENO};
 
 const CHUNK: usize = 4096;
 
-#[derive(Drop)]
+#[derive(Clone, Copy)]
 struct Turn {
     part: Part,
     more: bool,

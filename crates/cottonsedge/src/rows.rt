@@ -12,7 +12,7 @@ use status::live::live_count;
 use status::page::row_from;
 
 // What is answered, and how many rows are written.
-#[derive(Drop)]
+#[derive(Clone, Copy)]
 pub struct Page {
     pub answer: u64,
     pub rows: usize,

@@ -13,14 +13,14 @@ const HELD: usize = LINE + 1;
 pub const ROOM: usize = ANSWER;
 
 // The start of the line that is not ended yet.
-#[derive(Drop)]
+#[derive(Clone, Copy)]
 pub struct Part {
     bytes: [u8; HELD],
     count: usize,
 }
 
 // What a feed took of its chunk and wrote of its buffer, and the line that is left.
-#[derive(Drop)]
+#[derive(Clone, Copy)]
 pub struct Fed {
     pub part: Part,
     pub used: usize,

@@ -5,7 +5,7 @@ ghost use Rattle.lines.specs.Hex.{between, digit_of, field_of};
 // The most digits that a field has.
 pub const WIDTH: usize = 8;
 
-#[derive(Drop)]
+#[derive(Clone, Copy)]
 pub enum Field {
     Value(u32),
     Wrong,

@@ -12,7 +12,7 @@ const SECOND: usize = CALL + WIDTH;
 
 pub const LINE: usize = SECOND + WIDTH;
 
-#[derive(Drop)]
+#[derive(Clone, Copy)]
 pub enum Line {
     // The call's number and its two arguments.
     Request(u8, i32, i32),

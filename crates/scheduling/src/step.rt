@@ -6,7 +6,7 @@ ghost use Rattle.scheduling.specs.Steps.{Ends};
 use crate::schedule::reschedule;
 use rules::Answer;
 
-#[derive(Drop)]
+#[derive(Clone, Copy)]
 pub enum Step {
     Refused(u8),
     // Done, with this value.
@@ -16,7 +16,7 @@ pub enum Step {
 }
 
 // The answer, and the process that runs then.
-#[derive(Drop)]
+#[derive(Clone, Copy)]
 pub struct Told {
     pub answer: Answer,
     pub running: u8,

@@ -7,7 +7,7 @@ use arguments::index::{Index, index_below};
 use layout::fields::is_used;
 use tables::Tables;
 
-#[derive(Drop)]
+#[derive(Clone, Copy)]
 pub enum Target {
     Used(u8),
     Refusal(u8),

@@ -27,7 +27,7 @@ pub struct Semaphore {
     pub count: i32,
 }
 
-#[derive(Drop)]
+#[derive(Clone, Copy)]
 pub struct Tables {
     pub processes: [Process; Tables::PROCESSES],
     pub semaphores: [Semaphore; Tables::SEMAPHORES],
@@ -37,7 +37,7 @@ pub struct Tables {
     pub next_process: u8,
 }
 
-#[derive(Drop)]
+#[derive(Clone, Copy)]
 pub struct Limits {
     pub processes: usize,
     pub semaphores: usize,

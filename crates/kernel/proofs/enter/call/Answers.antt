@@ -1,0 +1,9 @@
+use Rattle.scheduling.proofs.StepLaws.{leads-end}
+use Rattle.kernel.proofs.EnterLaws.{handed-on}
+use Rattle.rules.proofs.Kept.{sound-numbered}
+use Rattle.kernel.proofs.enter.call.Goals as goal
+
+pub returns : goal.returns
+returns c =
+    let start = c in
+    λ runs. leads-end _ _ _ _ _ _ _ (λ t S. sound-numbered S start.args.number start.args.a start.args.b) runs (handed-on _ _ _ start.ranges.a start.ranges.b _ _ _ (c.act-step.ensures runs)) c.finish.ensures
