@@ -1,0 +1,14 @@
+use Prim.Native.Nat.{◌-◌, ◌^◌, ◌≤◌, ◌<◌}
+use native.Mathlib.Omega.{arith}
+use mathlib.Core.Path.{◌≡◌, refl, sym, ◌∙◌}
+use lib.ListN.{length, drop, get_or}
+use borrow.Author.Tests.{le-leb, lt-leb}
+use Rattle.lines.specs.Hex.{digit_of, read_on, field_of}
+use Rattle.lines.proofs.HexLaws.{digit-more, digits-fit, read-digit, no_digit, read-end}
+use Rattle.lines.proofs.hex.read_field.Given as goal
+
+abbrev pub invariant-loop-i : goal.invariant-loop-i
+invariant-loop-i l = (l.i ≤ length l.part) × (length l.part ≤ 8) × (l.n < 16 ^ l.i) × (read_on l.n (drop l.i l.part) ≡ read_on 0 l.part)
+
+abbrev pub decreases-loop-i : goal.decreases-loop-i
+decreases-loop-i l = length l.part - l.i
