@@ -73,10 +73,10 @@ module _ {t : Tables} (S : Sound t) (F : CountsFit t) where
 
 pub answers-ruled : {t : Tables} → Sound t → CountsFit t → (lines : List (List ℕ)) → answers_to (to_bytes t) lines ≡ ruled t lines
 unfolding answers_to ruled
-answers-ruled S F [] = refl
-answers-ruled S F (line ∷ lines) =
+answers-ruled {t = t} S F [] = refl
+answers-ruled {t = t} S F (line ∷ lines) =
     let one = goes S F (line_of line) (line-fits line) in
-    rw (one.told, one.left, answers-ruled one.sound one.fits lines)
+    rw (one.told, one.left, answers-ruled {t = (outcome_of t (line_of line)).tables} one.sound one.fits lines)
 
 pub boot-ruled : (input : List ℕ) → answers (to_bytes boot) input ≡ ruled boot (lines_of input)
 unfolding answers

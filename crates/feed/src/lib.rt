@@ -1,2 +1,4 @@
 // From the bench's input, chunk by chunk, to its answers: all but reading and writing.
+#![tactic(auto)]
+
 pub mod feed;
