@@ -31,8 +31,7 @@ fn put_row(bytes: &mut [u8])
 }
 
 // 0 with the boot tables written, or 15 with nothing written if the length is wrong.
-#[unsafe(no_mangle)]
-pub extern "C" fn cottonsedge_boot(tables: &mut [u8]) -> u8
+pub fn cottonsedge_boot(tables: &mut [u8]) -> u8
     ensures { (result ≡ boot_answer tables.old) × (tables.new ≡ booted tables.old) }
 {
     if tables.len() != SIZE {

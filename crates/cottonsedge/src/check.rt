@@ -5,8 +5,7 @@ ghost use Rattle.cottonsedge.specs.Entries.{check_answer};
 use soundness::check::is_sound;
 
 // 0, or 15 if the tables lent aren't sound, or are too short or too long.
-#[unsafe(no_mangle)]
-pub extern "C" fn cottonsedge_check(tables: &[u8]) -> u8
+pub fn cottonsedge_check(tables: &[u8]) -> u8
     ensures { result ≡ check_answer tables.now }
 {
     if is_sound(tables) {

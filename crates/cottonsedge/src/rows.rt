@@ -42,8 +42,7 @@ fn page_of(tables: &[u8], lent: usize) -> Page
 }
 
 // A row for each live process, in rising number; the rows behind them, and at a refusal all of them, are left as they were. The tables are lent to be read.
-#[unsafe(no_mangle)]
-pub extern "C" fn cottonsedge_rows(tables: &[u8], rows: &mut [Row]) -> u64
+pub fn cottonsedge_rows(tables: &[u8], rows: &mut [Row]) -> u64
     ensures { Paged tables.now rows.old result rows.new }
 {
     let page = page_of(tables, rows.len());

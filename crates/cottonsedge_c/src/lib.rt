@@ -1,0 +1,7 @@
+// The four functions that firmware links, each the one of `cottonsedge` with the same clauses: only what stands here is exported.
+#![tactic(auto)]
+
+pub mod boot;
+pub mod call;
+pub mod check;
+pub mod rows;
