@@ -13,7 +13,7 @@ use Rattle.lists.specs.Numbers.{FirstFrom, count_up, listed, onward, round_from}
 use Rattle.lists.proofs.Bools.{below?, split}
 use Rattle.lists.proofs.ListLaws.{times-append}
 use Rattle.lists.proofs.NumberLaws.{listed_at, listed-from, listed-length}
-use Rattle.lists.proofs.Rows.{times-at, within}
+use Rattle.lists.proofs.Rows.{times-at}
 
 pub in-count_up : (x k n : ℕ) → 1 ≤ times x (count_up k n) → (k ≤ x) × (x < k + n)
 unfolding times listed

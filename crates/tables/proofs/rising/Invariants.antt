@@ -1,4 +1,4 @@
-use Rattle.std.proofs.Common.{◌≡◌, ◌≤◌, length, take}
+use Rattle.std.proofs.Common.{◌≡◌, length, take}
 use Rattle.lists.specs.Numbers.{count_up}
 use Rattle.tables.specs.Limits.{process_limit}
 use Rattle.tables.proofs.rising.Given as goal

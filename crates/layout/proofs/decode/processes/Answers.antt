@@ -1,14 +1,11 @@
 -- The entries before i are those that the bytes say. Assumes nothing.
-use Prim.Native.Nat.{◌-◌, ◌≤◌}
 use native.Mathlib.Omega.{arith}
-use mathlib.Core.Path.{◌≡◌, refl}
-use lib.ListN.{length, length-set, take}
-use Rattle.lists.specs.Numbers.{listed}
+use mathlib.Core.Path.{refl}
+use lib.ListN.{length-set}
 use Rattle.tables.specs.Limits.{process_limit}
 use Rattle.tables.specs.Readers.{free_slot}
 use Rattle.lists.proofs.NumberLaws.{listed-done, listed_next}
 use Rattle.layout.specs.Bytes.{process_at}
-use Rattle.layout.specs.Offsets.{size}
 use borrow.Author.Rules.{rules}
 use Rattle.layout.proofs.decode.processes.Goals as goal
 

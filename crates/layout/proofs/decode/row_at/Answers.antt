@@ -1,9 +1,8 @@
 -- The places before i are the bytes from k on. Assumes nothing.
-use Prim.Native.Nat.{◌+◌, ◌-◌, ◌≤◌, ℕ}
+use Prim.Native.Nat.{◌+◌, ℕ}
 use native.Mathlib.Omega.{arith}
-use mathlib.Core.Path.{◌≡◌, refl}
-use lib.ListN.{get_or, length, length-set, take}
-use Rattle.lists.specs.Numbers.{listed}
+use mathlib.Core.Path.{refl}
+use lib.ListN.{get_or, length-set}
 use Rattle.tables.specs.Limits.{process_limit}
 use Rattle.lists.proofs.NumberLaws.{listed-done, listed_next}
 use borrow.Author.Rules.{rules}

@@ -1,10 +1,8 @@
-use Prim.Native.Nat.{◌+◌, ◌-◌, ◌≤◌, ℕ}
-use native.Mathlib.Omega.{arith}
-use mathlib.Core.Path.{◌≡◌, refl}
-use lib.ListN.{get_or, length, length-set, take}
+use Prim.Native.Nat.{◌+◌, ◌-◌, ◌≤◌}
+use mathlib.Core.Path.{◌≡◌}
+use lib.ListN.{get_or, length, take}
 use Rattle.lists.specs.Numbers.{listed}
 use Rattle.tables.specs.Limits.{process_limit}
-use Rattle.lists.proofs.NumberLaws.{listed-done, listed_next}
 use Rattle.layout.proofs.decode.row_at.Given as goal
 
 abbrev pub invariant-loop-i : goal.invariant-loop-i

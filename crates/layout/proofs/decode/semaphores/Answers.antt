@@ -1,14 +1,11 @@
 -- The entries before i are those that the bytes say. Assumes nothing.
-use Prim.Native.Nat.{◌-◌, ◌≤◌}
 use native.Mathlib.Omega.{arith}
-use mathlib.Core.Path.{◌≡◌, refl}
-use lib.ListN.{length, length-set, take}
-use Rattle.lists.specs.Numbers.{listed}
+use mathlib.Core.Path.{refl}
+use lib.ListN.{length-set}
 use Rattle.tables.specs.Limits.{semaphore_limit}
 use Rattle.tables.specs.Readers.{free_semaphore}
 use Rattle.lists.proofs.NumberLaws.{listed-done, listed_next}
 use Rattle.layout.specs.Bytes.{semaphore_at}
-use Rattle.layout.specs.Offsets.{size}
 use borrow.Author.Rules.{rules}
 use Rattle.layout.proofs.decode.semaphores.Goals as goal
 

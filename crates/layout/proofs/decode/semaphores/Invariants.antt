@@ -1,11 +1,8 @@
 use Prim.Native.Nat.{◌-◌, ◌≤◌}
-use native.Mathlib.Omega.{arith}
-use mathlib.Core.Path.{◌≡◌, refl}
-use lib.ListN.{length, length-set, take}
+use mathlib.Core.Path.{◌≡◌}
+use lib.ListN.{length, take}
 use Rattle.lists.specs.Numbers.{listed}
 use Rattle.tables.specs.Limits.{semaphore_limit}
-use Rattle.tables.specs.Readers.{free_semaphore}
-use Rattle.lists.proofs.NumberLaws.{listed-done, listed_next}
 use Rattle.layout.specs.Bytes.{semaphore_at}
 use Rattle.layout.specs.Offsets.{size}
 use Rattle.layout.proofs.decode.semaphores.Given as goal

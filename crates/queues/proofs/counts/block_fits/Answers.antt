@@ -1,12 +1,8 @@
 -- Each turn has one semaphore more of the block tested: its squeezed count says enough, since few wait. Assumes nothing.
-use Prim.Native.Nat.{◌+◌, ◌-◌, ◌<◌, ◌≤◌, ℕ}
+use Prim.Native.Nat.{◌+◌}
 use native.Mathlib.Omega.{arith}
 use mathlib.Core.Path.{◌∙◌, ◌≡◌, sym}
-use lib.ListN.{get_or, length}
 use Rattle.layout.specs.Bytes.{count_at, from_bytes}
-use Rattle.layout.specs.Offsets.{size}
-use Rattle.lists.specs.Numbers.{all}
-use Rattle.tables.specs.Limits.{semaphore_limit}
 use Rattle.layout.proofs.Image.{semaphore-said}
 use Rattle.lists.proofs.NumberLaws.{all-next, all_none}
 use Rattle.queues.specs.Squeeze.{block_limit}

@@ -1,13 +1,10 @@
-use Prim.Native.Nat.{◌+◌, ◌-◌, ◌<◌, ◌≤◌, ℕ}
-use native.Mathlib.Omega.{arith}
-use mathlib.Core.Path.{◌∙◌, ◌≡◌, sym}
-use lib.ListN.{get_or, length}
-use Rattle.layout.specs.Bytes.{count_at, from_bytes}
+use Prim.Native.Nat.{◌+◌, ◌-◌, ◌≤◌}
+use mathlib.Core.Path.{◌≡◌}
+use lib.ListN.{length}
+use Rattle.layout.specs.Bytes.{from_bytes}
 use Rattle.layout.specs.Offsets.{size}
 use Rattle.lists.specs.Numbers.{all}
 use Rattle.tables.specs.Limits.{semaphore_limit}
-use Rattle.layout.proofs.Image.{semaphore-said}
-use Rattle.lists.proofs.NumberLaws.{all-next, all_none}
 use Rattle.queues.specs.Squeeze.{block_limit}
 use Rattle.queues.specs.Tallies.{counted_fits}
 use Rattle.queues.proofs.counts.block_fits.Given as goal

@@ -1,10 +1,7 @@
-use Prim.Native.Nat.{◌*◌, ◌+◌, ◌-◌, ◌/◌, ◌≤◌}
+use Prim.Native.Nat.{◌*◌, ◌+◌, ◌/◌}
 use native.Mathlib.Omega.{arith}
 use mathlib.Core.Path.{◌≡◌}
-use lib.ListN.{length}
-use Rattle.layout.specs.Offsets.{size}
-use Rattle.tables.specs.Limits.{semaphore_limit}
-use Rattle.queues.specs.Squeeze.{Squeezed, block_limit, lane_limit}
+use Rattle.queues.specs.Squeeze.{block_limit, lane_limit}
 use Rattle.queues.proofs.Squeezing.{squeezed-none}
 use borrow.Author.Rules.{rules}
 use Rattle.queues.proofs.squeeze.smalls.Goals as goal

@@ -1,12 +1,10 @@
 -- Each turn puts one count more, squeezed, behind those that stand: the word read is the count's, as a signed number. Assumes nothing.
-use Prim.Native.Nat.{◌*◌, ◌+◌, ◌-◌, ◌≤◌}
+use Prim.Native.Nat.{◌*◌, ◌+◌}
 use native.Mathlib.Omega.{arith}
 use mathlib.Core.Path.{◌≡◌}
-use lib.ListN.{length}
 use Rattle.layout.specs.Bytes.{word_at}
-use Rattle.layout.specs.Offsets.{counts_at, size}
-use Rattle.tables.specs.Limits.{semaphore_limit}
-use Rattle.queues.specs.Squeeze.{Squeezed, block_limit, lane_limit}
+use Rattle.layout.specs.Offsets.{counts_at}
+use Rattle.queues.specs.Squeeze.{lane_limit}
 use Rattle.queues.proofs.Squeezing.{count-said, squeezed-next}
 use borrow.Author.Rules.{rules}
 use Rattle.queues.proofs.squeeze.squeeze.Goals as goal

@@ -1,12 +1,9 @@
-use Prim.Native.Nat.{◌*◌, ◌+◌, ◌-◌, ◌≤◌}
-use native.Mathlib.Omega.{arith}
+use Prim.Native.Nat.{◌+◌, ◌-◌, ◌≤◌}
 use mathlib.Core.Path.{◌≡◌}
 use lib.ListN.{length}
-use Rattle.layout.specs.Bytes.{word_at}
-use Rattle.layout.specs.Offsets.{counts_at, size}
+use Rattle.layout.specs.Offsets.{size}
 use Rattle.tables.specs.Limits.{semaphore_limit}
 use Rattle.queues.specs.Squeeze.{Squeezed, block_limit, lane_limit}
-use Rattle.queues.proofs.Squeezing.{count-said, squeezed-next}
 use Rattle.queues.proofs.squeeze.squeeze.Given as goal
 
 abbrev pub invariant-loop-i : goal.invariant-loop-i

@@ -1,13 +1,12 @@
 -- Each turn counts one process more of either half, at the cell that its state byte names. Assumes nothing.
-use Prim.Native.Nat.{◌+◌, ◌-◌, ◌<◌, ◌≤◌}
+use Prim.Native.Nat.{◌+◌, ◌<◌}
 use native.Mathlib.Nat.{zero-add}
 use native.Mathlib.Omega.{arith}
-use mathlib.Core.Bool.{true}
 use mathlib.Core.Path.{◌≡◌}
-use Rattle.layout.specs.Bytes.{from_bytes, well_formed}
+use Rattle.layout.specs.Bytes.{from_bytes}
 use Rattle.tables.specs.Limits.{process_limit}
 use Rattle.layout.proofs.Image.{formed-long, formed-state}
-use Rattle.queues.specs.Tallies.{Tallied, half_limit}
+use Rattle.queues.specs.Tallies.{half_limit}
 use Rattle.queues.proofs.Tally.{tallied-next, waits-cell}
 use borrow.Author.Rules.{rules}
 use Rattle.queues.proofs.waiters.tally.Goals as goal

@@ -1,13 +1,8 @@
-use Prim.Native.Nat.{◌+◌, ◌-◌, ◌<◌, ◌≤◌}
-use native.Mathlib.Nat.{zero-add}
-use native.Mathlib.Omega.{arith}
+use Prim.Native.Nat.{◌-◌, ◌≤◌}
 use mathlib.Core.Bool.{true}
 use mathlib.Core.Path.{◌≡◌}
 use Rattle.layout.specs.Bytes.{from_bytes, well_formed}
-use Rattle.tables.specs.Limits.{process_limit}
-use Rattle.layout.proofs.Image.{formed-long, formed-state}
 use Rattle.queues.specs.Tallies.{Tallied, half_limit}
-use Rattle.queues.proofs.Tally.{tallied-next, waits-cell}
 use Rattle.queues.proofs.waiters.tally.Given as goal
 
 abbrev pub invariant-loop-i : goal.invariant-loop-i

@@ -1,8 +1,5 @@
 -- Each test in order: a failed one fails a clause, and with all passed the row is left. Assumes nothing.
 use native.Mathlib.Omega.{arith}
-use mathlib.Core.Path.{◌≡◌}
-use lib.ListN.{length}
-use Rattle.layout.specs.Offsets.{size}
 use Rattle.layout.proofs.Image.{formed-long, formed-place}
 use Rattle.soundness.proofs.LaidBytes.{far-process, far-semaphore, null-wrong, row-left, slots-wrong}
 use Rattle.soundness.proofs.check.laid.Goals as goal

@@ -1,16 +1,8 @@
 -- Each test in order: a failed one fails the test of soundness, and with all passed the sole current process runs. Assumes nothing.
-use Prim.Native.Nat.{◌<◌, ℕ}
 use native.Mathlib.Omega.{arith}
-use mathlib.Core.Bool.{true}
-use mathlib.Core.List.{List}
-use mathlib.Core.Path.{◌∙◌, ◌≡◌, sym}
-use Rattle.layout.specs.Bytes.{from_bytes, well_formed}
-use Rattle.tables.specs.Limits.{process_limit}
-use Rattle.tables.specs.Readers.{nobody}
-use Rattle.tables.specs.Test.{semaphores_fit}
+use mathlib.Core.Path.{◌∙◌, sym}
 use Rattle.layout.proofs.Image.{formed-long, formed-place}
 use Rattle.queues.proofs.Tally.{none-tallied}
-use Rattle.soundness.specs.Laid.{laid_clauses}
 use Rattle.soundness.proofs.Parts.{current-small, nobody-runs, not-falling, not-fitting, priority-small, queues-said, runs}
 use Rattle.soundness.proofs.check.runner.Goals as goal
 

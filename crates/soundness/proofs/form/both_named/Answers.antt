@@ -1,12 +1,8 @@
 -- The flag says that the states and the places below i are named. Assumes nothing.
-use Prim.Native.Nat.{◌-◌, ◌≤◌}
 use native.Mathlib.Omega.{arith}
 use mathlib.Core.Bool.{◌&&◌}
 use mathlib.Core.Path.{◌≡◌, refl, sym}
-use lib.ListN.{length}
 use Rattle.layout.specs.Bytes.{place_named, state_named}
-use Rattle.layout.specs.Offsets.{size}
-use Rattle.lists.specs.Numbers.{all}
 use Rattle.tables.specs.Limits.{process_limit}
 use Rattle.lists.proofs.NumberLaws.{all-next, all_none}
 use borrow.Author.Rules.{rules}

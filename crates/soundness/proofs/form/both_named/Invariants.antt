@@ -1,13 +1,11 @@
 use Prim.Native.Nat.{◌-◌, ◌≤◌}
-use native.Mathlib.Omega.{arith}
 use mathlib.Core.Bool.{◌&&◌}
-use mathlib.Core.Path.{◌≡◌, refl, sym}
+use mathlib.Core.Path.{◌≡◌}
 use lib.ListN.{length}
 use Rattle.layout.specs.Bytes.{place_named, state_named}
 use Rattle.layout.specs.Offsets.{size}
 use Rattle.lists.specs.Numbers.{all}
 use Rattle.tables.specs.Limits.{process_limit}
-use Rattle.lists.proofs.NumberLaws.{all-next, all_none}
 use Rattle.soundness.proofs.form.both_named.Given as goal
 
 abbrev pub invariant-loop-i : goal.invariant-loop-i

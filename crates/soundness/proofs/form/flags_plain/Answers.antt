@@ -1,10 +1,6 @@
-use Prim.Native.Nat.{◌-◌, ◌≤◌}
 use native.Mathlib.Omega.{arith}
 use mathlib.Core.Path.{◌≡◌, refl, sym}
-use lib.ListN.{length}
 use Rattle.layout.specs.Bytes.{flag_plain}
-use Rattle.layout.specs.Offsets.{size}
-use Rattle.lists.specs.Numbers.{all}
 use Rattle.tables.specs.Limits.{semaphore_limit}
 use Rattle.lists.proofs.NumberLaws.{all-next, all_none}
 use borrow.Author.Rules.{rules}

@@ -1,9 +1,7 @@
 -- The keys below i are made. Assumes nothing.
-use Prim.Native.Nat.{◌-◌, ◌<◌, ◌≤◌, ℕ}
 use native.Mathlib.Omega.{arith}
 use mathlib.Core.Path.{◌≡◌}
-use lib.ListN.{get_or, length, length-set}
-use Rattle.layout.specs.Offsets.{size}
+use lib.ListN.{length-set}
 use Rattle.tables.specs.Limits.{process_limit}
 use Rattle.lists.proofs.ListLaws.{filled-one}
 use Rattle.soundness.specs.Keys.{key_of}

@@ -1,10 +1,8 @@
 use Prim.Native.Nat.{◌-◌, ◌<◌, ◌≤◌, ℕ}
-use native.Mathlib.Omega.{arith}
 use mathlib.Core.Path.{◌≡◌}
-use lib.ListN.{get_or, length, length-set}
+use lib.ListN.{get_or, length}
 use Rattle.layout.specs.Offsets.{size}
 use Rattle.tables.specs.Limits.{process_limit}
-use Rattle.lists.proofs.ListLaws.{filled-one}
 use Rattle.soundness.specs.Keys.{key_of}
 use Rattle.soundness.proofs.ready.keys.Given as goal
 

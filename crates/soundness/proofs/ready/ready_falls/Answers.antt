@@ -1,9 +1,9 @@
 -- What is left of the test from place i on, with the key before it, is the whole test. Assumes nothing.
-use Prim.Native.Nat.{◌+◌, ◌-◌, ◌<◌, ◌≤◌, ℕ}
+use Prim.Native.Nat.{◌+◌, ◌-◌, ◌<◌, ℕ}
 use native.Mathlib.Omega.{arith}
-use mathlib.Core.Path.{◌∙◌, ◌≡◌, ap, refl, sym}
-use lib.ListN.{get_or, length}
-use Rattle.layout.specs.Offsets.{order_at, size}
+use mathlib.Core.Path.{◌∙◌, ap, refl, sym}
+use lib.ListN.{get_or}
+use Rattle.layout.specs.Offsets.{order_at}
 use Rattle.tables.specs.Limits.{process_limit}
 use Rattle.soundness.proofs.FallingBytes.{key-byte, key-on, key-some, key-stop, left, left-all, left-none}
 use borrow.Author.Rules.{rules}

@@ -1,10 +1,9 @@
-use Prim.Native.Nat.{◌+◌, ◌-◌, ◌<◌, ◌≤◌, ℕ}
-use native.Mathlib.Omega.{arith}
-use mathlib.Core.Path.{◌∙◌, ◌≡◌, ap, refl, sym}
-use lib.ListN.{get_or, length}
-use Rattle.layout.specs.Offsets.{order_at, size}
+use Prim.Native.Nat.{◌-◌, ◌<◌, ◌≤◌}
+use mathlib.Core.Path.{◌≡◌}
+use lib.ListN.{length}
+use Rattle.layout.specs.Offsets.{size}
 use Rattle.tables.specs.Limits.{process_limit}
-use Rattle.soundness.proofs.FallingBytes.{key-byte, key-on, key-some, key-stop, left, left-all, left-none}
+use Rattle.soundness.proofs.FallingBytes.{left}
 use Rattle.soundness.proofs.ready.ready_falls.Given as goal
 
 abbrev pub invariant-loop-i : goal.invariant-loop-i

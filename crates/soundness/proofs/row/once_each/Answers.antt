@@ -1,5 +1,5 @@
 -- A bit for each number that stands in the row so far: all bits, and each of the 32 stands there once. Assumes nothing.
-use Prim.Native.Nat.{◌+◌, ◌-◌, ◌<◌, ◌^◌, ◌≤◌, ℕ}
+use Prim.Native.Nat.{◌+◌, ◌-◌, ◌<◌, ◌^◌, ℕ}
 use native.Mathlib.Omega.{arith}
 use mathlib.Core.Bool.{Bool, ◌||◌, false}
 use mathlib.Core.List.{List}
@@ -9,7 +9,7 @@ use lib.Dec.{eqb, ltb}
 use lib.ListN.{get_or, length, take}
 use lib.Seq.{take_all}
 use Rattle.layout.specs.Bytes.{from_bytes}
-use Rattle.layout.specs.Offsets.{order_at, size}
+use Rattle.layout.specs.Offsets.{order_at}
 use Rattle.lists.specs.Lists.{times}
 use Rattle.tables.specs.Limits.{process_limit}
 use Rattle.layout.proofs.Image.{order-long, place-said}

@@ -1,15 +1,9 @@
 -- The sum so far is that of the slots below i. Assumes nothing.
-use Prim.Native.Nat.{◌+◌, ◌-◌, ◌≤◌}
+use Prim.Native.Nat.{◌+◌}
 use native.Mathlib.Omega.{arith}
-use mathlib.Core.Logic.{⊎_elim}
 use mathlib.Core.Path.{◌∙◌, ◌≡◌, sym}
-use lib.ListN.{length}
-use Rattle.layout.specs.Bytes.{from_bytes}
-use Rattle.layout.specs.Offsets.{size}
 use Rattle.tables.specs.Limits.{process_limit}
-use Rattle.tables.specs.States.{is_current}
 use Rattle.lists.proofs.Rows.{total-none}
-use Rattle.soundness.specs.Sums.{sum_below}
 use Rattle.soundness.proofs.StateBytes.{current-more, current-same, currents-small}
 use borrow.Author.Rules.{rules}
 use Rattle.soundness.proofs.running.weight.Goals as goal
@@ -33,8 +27,9 @@ loop-i-preserved c =
     let more = current-more bs (λ p. process_limit + p) i _ (omega arith) loop.invariant.1 in
     let same = current-same bs (λ p. process_limit + p) i _ (omega arith) loop.invariant.1 in
     elim c.if-bytes-i-eq-CURRENT.branch [
-      then-bytes-i-eq-CURRENT w ↦ (search rules, w.sum-is ∙ more w.if-bytes-i-eq-CURRENT.true, search rules)
-      | else-bytes-i-eq-CURRENT w ↦ (search rules, w.sum-is ∙ same w.if-bytes-i-eq-CURRENT.false, search rules) ]
+      | then-bytes-i-eq-CURRENT w ↦ (search rules, w.sum-is ∙ more w.if-bytes-i-eq-CURRENT.true, search rules)
+      | else-bytes-i-eq-CURRENT w ↦ (search rules, w.sum-is ∙ same w.if-bytes-i-eq-CURRENT.false, search rules)
+    ]
 
 pub returns : goal.returns
 returns c =

@@ -1,15 +1,11 @@
 use Prim.Native.Nat.{◌+◌, ◌-◌, ◌≤◌}
-use native.Mathlib.Omega.{arith}
-use mathlib.Core.Logic.{⊎_elim}
-use mathlib.Core.Path.{◌∙◌, ◌≡◌, sym}
+use mathlib.Core.Path.{◌≡◌}
 use lib.ListN.{length}
 use Rattle.layout.specs.Bytes.{from_bytes}
 use Rattle.layout.specs.Offsets.{size}
 use Rattle.tables.specs.Limits.{process_limit}
 use Rattle.tables.specs.States.{is_current}
-use Rattle.lists.proofs.Rows.{total-none}
 use Rattle.soundness.specs.Sums.{sum_below}
-use Rattle.soundness.proofs.StateBytes.{current-more, current-same, currents-small}
 use Rattle.soundness.proofs.running.weight.Given as goal
 
 abbrev pub invariant-loop-i : goal.invariant-loop-i

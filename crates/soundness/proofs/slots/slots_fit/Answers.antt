@@ -1,13 +1,9 @@
 -- The flag says that the slots below i fit. Assumes nothing.
-use Prim.Native.Nat.{◌-◌, ◌≤◌}
 use native.Mathlib.Omega.{arith}
 use mathlib.Core.Bool.{Bool, ◌||◌}
 use mathlib.Core.Path.{◌∙◌, ◌≡◌, ap, sym}
 use lib.Dec.{eqb}
-use lib.ListN.{length}
 use Rattle.layout.specs.Bytes.{from_bytes}
-use Rattle.layout.specs.Offsets.{size}
-use Rattle.lists.specs.Numbers.{all}
 use Rattle.tables.specs.Limits.{process_limit}
 use Rattle.tables.specs.Readers.{process}
 use Rattle.tables.specs.Test.{slot_fits}

@@ -1,7 +1,6 @@
 use Prim.Native.Nat.{◌-◌, ◌≤◌}
-use native.Mathlib.Omega.{arith}
-use mathlib.Core.Bool.{Bool, ◌||◌}
-use mathlib.Core.Path.{◌∙◌, ◌≡◌, ap, sym}
+use mathlib.Core.Bool.{◌||◌}
+use mathlib.Core.Path.{◌≡◌}
 use lib.Dec.{eqb}
 use lib.ListN.{length}
 use Rattle.layout.specs.Bytes.{from_bytes}
@@ -10,8 +9,6 @@ use Rattle.lists.specs.Numbers.{all}
 use Rattle.tables.specs.Limits.{process_limit}
 use Rattle.tables.specs.Readers.{process}
 use Rattle.tables.specs.Test.{slot_fits}
-use Rattle.layout.proofs.Image.{process-said}
-use Rattle.lists.proofs.NumberLaws.{all-next, all_none}
 use Rattle.soundness.proofs.slots.slots_fit.Given as goal
 
 abbrev pub invariant-loop-i : goal.invariant-loop-i
