@@ -1,7 +1,5 @@
 -- From each place on the search finds what it finds from the start. Assumes nothing.
-use Prim.Native.Nat.{◌-◌, ◌≤◌}
-use Rattle.tables.specs.Limits.{process_limit}
-use Rattle.order.proofs.Found.{Scans, scan-end, scan-here, scan-on, scan-start}
+use Rattle.order.proofs.Found.{scan-end, scan-here, scan-on, scan-start}
 use borrow.Author.Rules.{rules}
 use Rattle.order.proofs.row.find.Goals as goal
 

@@ -1,6 +1,6 @@
 use Prim.Native.Nat.{◌-◌, ◌≤◌}
 use Rattle.tables.specs.Limits.{process_limit}
-use Rattle.order.proofs.Found.{Scans, scan-end, scan-here, scan-on, scan-start}
+use Rattle.order.proofs.Found.{Scans}
 use Rattle.order.proofs.row.find.Given as goal
 
 abbrev pub invariant-loop-i : goal.invariant-loop-i

@@ -1,8 +1,6 @@
 use Prim.Native.Nat.{◌+◌, ◌-◌, ◌≤◌}
-use native.Mathlib.Omega.{arith}
-use mathlib.Core.Logic.{⊎_elim}
 use Rattle.tables.specs.Limits.{process_limit}
-use Rattle.order.proofs.Found.{CountsTo, count-end, count-here, count-over, count_past, count-start}
+use Rattle.order.proofs.Found.{CountsTo}
 use Rattle.order.proofs.row.place_among.Given as goal
 
 abbrev pub invariant-loop-i : goal.invariant-loop-i

@@ -1,10 +1,5 @@
 -- What is done, joined with the row that is left, is the row with p put in. Assumes nothing.
-use Prim.Native.Nat.{◌-◌, ◌<◌}
-use mathlib.Core.Path.{◌≡◌}
-use lib.ListN.{length}
-use Rattle.layout.specs.Offsets.{size}
-use Rattle.tables.specs.Limits.{process_limit}
-use Rattle.order.proofs.Moves.{Rises, rise-end, rise-on, rise-start, rise-stop}
+use Rattle.order.proofs.Moves.{rise-end, rise-on, rise-start, rise-stop}
 use borrow.Author.Rules.{rules}
 use Rattle.order.proofs.row.rise.Goals as goal
 

@@ -3,7 +3,7 @@ use mathlib.Core.Path.{◌≡◌}
 use lib.ListN.{length}
 use Rattle.layout.specs.Offsets.{size}
 use Rattle.tables.specs.Limits.{process_limit}
-use Rattle.order.proofs.Moves.{Rises, rise-end, rise-on, rise-start, rise-stop}
+use Rattle.order.proofs.Moves.{Rises}
 use Rattle.order.proofs.row.rise.Given as goal
 
 abbrev pub invariant-loop-j : goal.invariant-loop-j

@@ -1,10 +1,5 @@
 -- What is done, joined with the row that is left, is the row with p moved on. Assumes nothing.
-use Prim.Native.Nat.{◌-◌, ◌<◌}
-use mathlib.Core.Path.{◌≡◌}
-use lib.ListN.{length}
-use Rattle.layout.specs.Offsets.{size}
-use Rattle.tables.specs.Limits.{process_limit}
-use Rattle.order.proofs.Moves.{Sinks, sink-end, sink-on, sink-start, sink-stop}
+use Rattle.order.proofs.Moves.{sink-end, sink-on, sink-start, sink-stop}
 use borrow.Author.Rules.{rules}
 use Rattle.order.proofs.row.sink.Goals as goal
 

@@ -3,7 +3,7 @@ use mathlib.Core.Path.{◌≡◌}
 use lib.ListN.{length}
 use Rattle.layout.specs.Offsets.{size}
 use Rattle.tables.specs.Limits.{process_limit}
-use Rattle.order.proofs.Moves.{Sinks, sink-end, sink-on, sink-start, sink-stop}
+use Rattle.order.proofs.Moves.{Sinks}
 use Rattle.order.proofs.row.sink.Given as goal
 
 abbrev pub invariant-loop-j : goal.invariant-loop-j

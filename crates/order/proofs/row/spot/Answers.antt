@@ -1,7 +1,5 @@
 -- The move of p begins at no place that was passed. Assumes nothing.
-use Prim.Native.Nat.{◌-◌, ◌<◌}
-use Rattle.tables.specs.Limits.{process_limit}
-use Rattle.order.proofs.Spots.{Looks, look-on, look-start, spot-end, spot-p, spot-passes}
+use Rattle.order.proofs.Spots.{look-on, look-start, spot-end, spot-p, spot-passes}
 use borrow.Author.Rules.{rules}
 use Rattle.order.proofs.row.spot.Goals as goal
 

@@ -1,6 +1,6 @@
 use Prim.Native.Nat.{◌-◌, ◌<◌}
 use Rattle.tables.specs.Limits.{process_limit}
-use Rattle.order.proofs.Spots.{Looks, look-on, look-start, spot-end, spot-p, spot-passes}
+use Rattle.order.proofs.Spots.{Looks}
 use Rattle.order.proofs.row.spot.Given as goal
 
 abbrev pub invariant-loop-i : goal.invariant-loop-i

@@ -1,6 +1,5 @@
 -- From each number on the search finds what it finds from the first. Assumes nothing.
-use Prim.Native.Nat.{◌-◌}
-use Rattle.order.proofs.SearchLaws.{Seeks, seek-end, seek-here, seek-on, seek-start}
+use Rattle.order.proofs.SearchLaws.{seek-end, seek-here, seek-on, seek-start}
 use borrow.Author.Rules.{rules}
 use Rattle.order.proofs.search.free_from.Goals as goal
 

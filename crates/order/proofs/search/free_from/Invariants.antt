@@ -1,5 +1,5 @@
 use Prim.Native.Nat.{◌-◌}
-use Rattle.order.proofs.SearchLaws.{Seeks, seek-end, seek-here, seek-on, seek-start}
+use Rattle.order.proofs.SearchLaws.{Seeks}
 use Rattle.order.proofs.search.free_from.Given as goal
 
 abbrev pub invariant-loop-i : goal.invariant-loop-i

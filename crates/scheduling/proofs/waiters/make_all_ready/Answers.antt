@@ -1,10 +1,5 @@
 -- To make ready those that are left is to make ready all. Assumes nothing.
-use Prim.Native.Nat.{◌-◌, ◌≤◌}
-use mathlib.Core.Path.{◌≡◌}
-use lib.ListN.{length}
-use Rattle.layout.specs.Offsets.{size}
-use Rattle.tables.specs.Limits.{process_limit}
-use Rattle.scheduling.proofs.WaiterLaws.{Frees, free-end, free_on, free-start}
+use Rattle.scheduling.proofs.WaiterLaws.{free-end, free_on, free-start}
 use borrow.Author.Rules.{rules}
 use Rattle.scheduling.proofs.waiters.make_all_ready.Goals as goal
 

@@ -3,7 +3,7 @@ use mathlib.Core.Path.{◌≡◌}
 use lib.ListN.{length}
 use Rattle.layout.specs.Offsets.{size}
 use Rattle.tables.specs.Limits.{process_limit}
-use Rattle.scheduling.proofs.WaiterLaws.{Frees, free-end, free_on, free-start}
+use Rattle.scheduling.proofs.WaiterLaws.{Frees}
 use Rattle.scheduling.proofs.waiters.make_all_ready.Given as goal
 
 abbrev pub invariant-loop-i : goal.invariant-loop-i

@@ -1,9 +1,5 @@
 -- What is picked, joined with the line that is left, is the line. Assumes nothing.
-use Prim.Native.Nat.{◌-◌, ◌≤◌}
-use mathlib.Core.Path.{◌≡◌}
-use lib.ListN.{length}
-use Rattle.tables.specs.Limits.{process_limit}
-use Rattle.scheduling.proofs.WaiterLaws.{Picks, pick_end, pick-on, pick-start}
+use Rattle.scheduling.proofs.WaiterLaws.{pick_end, pick-on, pick-start}
 use borrow.Author.Rules.{rules}
 use Rattle.scheduling.proofs.waiters.picked.Goals as goal
 

@@ -2,7 +2,7 @@ use Prim.Native.Nat.{◌-◌, ◌≤◌}
 use mathlib.Core.Path.{◌≡◌}
 use lib.ListN.{length}
 use Rattle.tables.specs.Limits.{process_limit}
-use Rattle.scheduling.proofs.WaiterLaws.{Picks, pick_end, pick-on, pick-start}
+use Rattle.scheduling.proofs.WaiterLaws.{Picks}
 use Rattle.scheduling.proofs.waiters.picked.Given as goal
 
 abbrev pub invariant-loop-i : goal.invariant-loop-i

@@ -1,8 +1,6 @@
 use Prim.Native.Nat.{◌-◌, ◌≤◌}
-use native.Mathlib.Omega.{arith}
-use mathlib.Core.Logic.{⊎_elim}
 use Rattle.tables.specs.Limits.{process_limit}
-use Rattle.status.proofs.LiveLaws.{CountsLive, counted-end, counted-in, counted-over, counted_start}
+use Rattle.status.proofs.LiveLaws.{CountsLive}
 use Rattle.status.proofs.live.live_count.Given as goal
 
 abbrev pub invariant-loop-p : goal.invariant-loop-p

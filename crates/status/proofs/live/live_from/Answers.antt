@@ -1,7 +1,5 @@
 -- From each number on the search finds what it finds from the start. Assumes nothing.
-use Prim.Native.Nat.{◌-◌}
-use Rattle.tables.specs.Limits.{process_limit}
-use Rattle.status.proofs.LiveLaws.{Seeks, seek-end, seek-here, seek-on, seek-start}
+use Rattle.status.proofs.LiveLaws.{seek-end, seek-here, seek-on, seek-start}
 use borrow.Author.Rules.{rules}
 use Rattle.status.proofs.live.live_from.Goals as goal
 

@@ -1,6 +1,6 @@
 use Prim.Native.Nat.{◌-◌}
 use Rattle.tables.specs.Limits.{process_limit}
-use Rattle.status.proofs.LiveLaws.{Seeks, seek-end, seek-here, seek-on, seek-start}
+use Rattle.status.proofs.LiveLaws.{Seeks}
 use Rattle.status.proofs.live.live_from.Given as goal
 
 abbrev pub invariant-loop-q : goal.invariant-loop-q
