@@ -1,8 +1,7 @@
 -- One more and one less, as far as 32 bits go. proofs/CountLaws shows that the counts of sound tables never come to the ends.
-use Rattle.std.specs.Prelude.{negsuc, ℤ}
+use Rattle.std.specs.Prelude.{if◌then◌else◌, negsuc, ℤ}
 use Rattle.std.proofs.Math.IntN.{pred_ℤ, suc_ℤ}
 use Rattle.std.specs.Int.Signed.{le_z}
-use Rattle.lists.specs.Lists.{if◌then◌else◌}
 use Rattle.rules.specs.Calls.{largest}
 
 abbrev pub raise : ℤ → ℤ

@@ -1,6 +1,5 @@
 -- An argument as the number of an entry.
-use Rattle.std.specs.Prelude.{ℕ, ltb, negsuc, pos, ℤ}
-use Rattle.lists.specs.Lists.{if◌then◌else◌}
+use Rattle.std.specs.Prelude.{if◌then◌else◌, ℕ, ltb, negsuc, pos, ℤ}
 use Rattle.arguments.specs.declared.index.Index.{Index}
 use Rattle.arguments.specs.declared.index.Index.TheVariants.{At, Outside}
 

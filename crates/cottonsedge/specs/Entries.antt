@@ -1,6 +1,5 @@
 -- What the exported entries answer, and every byte that they leave, of any bytes that are lent.
-use Rattle.std.specs.Prelude.{ℕ, eqb, ℤ, length, List, ◌≡◌}
-use Rattle.lists.specs.Lists.{if◌then◌else◌}
+use Rattle.std.specs.Prelude.{if◌then◌else◌, ℕ, eqb, ℤ, length, List, ◌≡◌}
 use Rattle.tables.specs.Boot.{boot}
 use Rattle.tables.specs.Readers.{nobody}
 use Rattle.layout.specs.Offsets.{size}

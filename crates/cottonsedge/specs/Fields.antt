@@ -1,8 +1,7 @@
 -- The answer of a call as one number of three fields: the refusal in 8 bits, the value in 32, the process in 8.
-use Rattle.std.specs.Prelude.{ℕ, ◌+◌, ◌*◌, ◌/◌, ◌%◌, ◌^◌, eqb}
+use Rattle.std.specs.Prelude.{if◌then◌else◌, ℕ, ◌+◌, ◌*◌, ◌/◌, ◌%◌, ◌^◌, eqb}
 use Rattle.std.specs.Int.{w32}
 use Rattle.std.proofs.Common.{of_z, to_z}
-use Rattle.lists.specs.Lists.{if◌then◌else◌}
 use Rattle.rules.specs.declared.Answer.{Answer}
 use Rattle.rules.specs.declared.Answer.TheVariants.{Done, Refused}
 use Rattle.rules.specs.Answers.{number_of, value_of}

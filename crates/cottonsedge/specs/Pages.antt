@@ -1,6 +1,5 @@
 -- The status page: what is answered, and every row that is left, of any bytes and any rows that are lent.
-use Rattle.std.specs.Prelude.{ℕ, ltb, pos, drop, length, List, ◌++◌, ◌≡◌}
-use Rattle.lists.specs.Lists.{if◌then◌else◌}
+use Rattle.std.specs.Prelude.{if◌then◌else◌, ℕ, ltb, pos, drop, length, List, ◌++◌, ◌≡◌}
 use Rattle.tables.specs.Readers.{live}
 use Rattle.layout.specs.Bytes.{from_bytes}
 use Rattle.soundness.specs.Good.{current_byte, good}

@@ -1,4 +1,5 @@
 -- Sound tables stand in bytes: every number that is written is below 256. Assumes nothing.
+use Rattle.std.specs.Prelude.{if◌then◌else◌}
 use Prim.Native.Nat.{◌%◌, ◌+◌, ◌-◌, ◌/◌, ◌<◌, ℕ}
 use native.Mathlib.Omega.{arith}
 use mathlib.Core.Bool.{Bool, false, true}
@@ -10,7 +11,6 @@ use mir.Val.{of_z}
 use borrow.Author.Tests.{ltb-true}
 use Rattle.layout.specs.Bytes.{byte_of, state_byte, to_bytes, used_byte, word_byte}
 use Rattle.layout.specs.Offsets.{counts_at, next_process_at, next_semaphore_at, order_at, priorities_at, size, states_at, used_at}
-use Rattle.lists.specs.Lists.{if◌then◌else◌}
 use Rattle.tables.specs.Counts.{CountsFit}
 use Rattle.tables.specs.Limits.{process_limit, semaphore_limit}
 use Rattle.tables.specs.Readers.{count_of, is_used, priority_of, process, state_of}

@@ -1,4 +1,5 @@
 -- However the input is cut into chunks, what is written is the answers to its lines. Assumes nothing.
+use Rattle.std.specs.Prelude.{if◌then◌else◌}
 use Prim.Native.Nat.{ℕ, ◌≤◌}
 use native.Mathlib.Nat.{min-eq_left}
 use native.Mathlib.Omega.{arith}
@@ -9,7 +10,7 @@ use lib.Dec.{eqb}
 use lib.ListN.{length, take, drop, length-append, length-take}
 use lib.Seq.{take_all, take-append-le, append_snoc, take_at}
 use borrow.Author.Tests.{eqb-true, ne_eqb}
-use Rattle.lists.specs.Lists.{if◌then◌else◌, is_empty}
+use Rattle.lists.specs.Lists.{is_empty}
 use Rattle.lists.proofs.Bools.{split, below?}
 use Rattle.tables.specs.Boot.{boot}
 use Rattle.layout.specs.Offsets.{size}

@@ -1,6 +1,5 @@
 -- The lines of an input, and the answers to them, each on the tables that the one before it left.
-use Rattle.std.specs.Prelude.{ℕ, List, [], ◌∷◌, ◌++◌, eqb}
-use Rattle.lists.specs.Lists.{if◌then◌else◌}
+use Rattle.std.specs.Prelude.{if◌then◌else◌, ℕ, List, [], ◌∷◌, ◌++◌, eqb}
 use Rattle.lines.specs.Line.{line_of}
 use Rattle.lines.specs.Answers.{newline, answer_to, tables_after, text_of}
 

@@ -1,6 +1,6 @@
 -- The input in chunks: what is held from one chunk to the next, and what is written.
-use Rattle.std.specs.Prelude.{ℕ, ◌+◌, ◌/◌, ◌≤◌, ◌≡◌, List, [], ◌∷◌, ◌++◌, eqb, length, take}
-use Rattle.lists.specs.Lists.{if◌then◌else◌, is_empty}
+use Rattle.std.specs.Prelude.{if◌then◌else◌, ℕ, ◌+◌, ◌/◌, ◌≤◌, ◌≡◌, List, [], ◌∷◌, ◌++◌, eqb, length, take}
+use Rattle.lists.specs.Lists.{is_empty}
 use Rattle.lines.specs.Line.{line_of, line_length}
 use Rattle.lines.specs.Answers.{answer_length, newline, answer_to, tables_after, text_of, over}
 use Rattle.feed.specs.declared.feed.Part.{Part}

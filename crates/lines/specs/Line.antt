@@ -1,8 +1,7 @@
 -- A bench line: eighteen hexadecimal digits, two for the call and eight for each argument, in two's complement.
-use Rattle.std.specs.Prelude.{ℕ, ◌<◌, Bool, true, false, ◌&&◌, List, [], ◌∷◌, eqb, ltb, length, take, drop}
+use Rattle.std.specs.Prelude.{if◌then◌else◌, ℕ, ◌<◌, Bool, true, false, ◌&&◌, List, [], ◌∷◌, eqb, ltb, length, take, drop}
 use Rattle.std.specs.Int.{w32}
 use Rattle.std.proofs.Common.{to_z}
-use Rattle.lists.specs.Lists.{if◌then◌else◌}
 use Rattle.lines.specs.declared.hex.Field.{Field}
 use Rattle.lines.specs.declared.hex.Field.TheVariants.{Value, Wrong}
 use Rattle.lines.specs.declared.line.Line.{Line}

@@ -1,4 +1,5 @@
 -- A set of numbers as the bits of one. Assumes nothing.
+use Rattle.std.specs.Prelude.{if◌then◌else◌}
 use Prim.Native.Nat.{◌%◌, ◌*◌, ◌+◌, ◌-◌, ◌<◌, ◌^◌, ◌≤◌, suc, zero, ℕ}
 use native.Mathlib.Nat.{mod-eq_of_lt, pow-le-pow_right, pow-suc, zero-mul}
 use native.Mathlib.Omega.{arith}
@@ -8,7 +9,6 @@ use lib.Bits.{bit_or, or_block, or_zero_r}
 use lib.Dec.{eqb}
 use lib.Pow.{pow_pos}
 use borrow.Author.Tests.{eq-eqb, eqb-true, ne_eqb}
-use Rattle.lists.specs.Lists.{if◌then◌else◌}
 use Rattle.lists.specs.Numbers.{all}
 use Rattle.lists.proofs.Bools.{and_no, bool_iff, either, split}
 

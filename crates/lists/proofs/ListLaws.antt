@@ -1,4 +1,5 @@
 -- Laws of the lists that the rules are written with. Assumes nothing.
+use Rattle.std.specs.Prelude.{if◌then◌else◌}
 use Prim.Native.Nat.{◌+◌, ◌<◌, ◌≤◌, min, suc, ℕ}
 use native.Mathlib.Nat.{min-eq_left, min-eq_right, min-le_right}
 use native.Mathlib.Omega.{arith}
@@ -10,7 +11,7 @@ use lib.Dec.{eqb}
 use lib.ListN.{get_or, length, length-take, replicate, set, take}
 use lib.Seq.{get_or-set_other, get_or-set_same, take_all}
 use borrow.Author.Tests.{eq-eqb, eqb-false, eqb-true, ne_eqb}
-use Rattle.lists.specs.Lists.{filter, if◌then◌else◌, place, put_before, take_out, times, without}
+use Rattle.lists.specs.Lists.{filter, place, put_before, take_out, times, without}
 use Rattle.lists.proofs.Bools.{below?, either, split}
 
 -- filter

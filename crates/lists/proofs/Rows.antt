@@ -1,4 +1,5 @@
 -- A row in which every number below n stands once: a sum along it is the sum over the numbers. Assumes nothing.
+use Rattle.std.specs.Prelude.{if◌then◌else◌}
 use Prim.Native.Nat.{ℕ, zero, suc, ◌+◌, ◌≤◌, ◌<◌, ◌*◌}
 use native.Mathlib.Nat.{suc-mul, mul-zero, mul-one, mul-add}
 use native.Mathlib.Numerals.{add-one}
@@ -9,7 +10,7 @@ use mathlib.Core.Path.{◌≡◌, refl, sym, ap, ◌∙◌}
 use lib.Dec.{eqb, ltb}
 use lib.ListN.{length, get_or}
 use borrow.Author.Tests.{eq-eqb, ne_eqb, lt-ltb, le-ltb, eqb-true}
-use Rattle.lists.specs.Lists.{if◌then◌else◌, filter, times, sum, first_or, first}
+use Rattle.lists.specs.Lists.{filter, times, sum, first_or, first}
 use Rattle.lists.specs.Numbers.{count_up, total}
 use Rattle.lists.proofs.Bools.{split, either, below?}
 use Rattle.lists.proofs.ListLaws.{times-cons}

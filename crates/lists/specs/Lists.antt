@@ -1,10 +1,5 @@
 -- Words on lists, most of them of numbers. Each recursive call is bound before the choice, so that a run over 32 or 120 entries computes.
-use Rattle.std.specs.Prelude.{ℕ, zero, suc, ◌+◌, ◌≤◌, Bool, true, false, not, ◌&&◌, List, [], ◌∷◌, eqb, leb, drop, take}
-
-infixr 1 if◌then◌else◌
-abbrev pub if◌then◌else◌ {ℓ} : {A : Type ℓ} → Bool → A → A → A
-if◌then◌else◌ true a b = a
-if◌then◌else◌ false a b = b
+use Rattle.std.specs.Prelude.{if◌then◌else◌, ℕ, zero, suc, ◌+◌, ◌≤◌, Bool, true, false, not, ◌&&◌, List, [], ◌∷◌, eqb, leb, drop, take}
 
 -- the entries that pass the test, in their order
 unfoldable pub filter : (ℕ → Bool) → List ℕ → List ℕ

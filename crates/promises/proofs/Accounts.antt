@@ -1,4 +1,5 @@
 -- What one entry more does to a semaphore's account. Assumes nothing.
+use Rattle.std.specs.Prelude.{if◌then◌else◌}
 use Prim.Native.Nat.{ℕ}
 use mathlib.Core.Bool.{Bool, true, false}
 use mathlib.Core.List.{List, [], ◌∷◌, ◌++◌}
@@ -7,7 +8,7 @@ use mathlib.Core.Path.{◌≡◌, refl, ap, ◌∙◌}
 use lib.Dec.{eqb}
 use lib.IntN.{ℤ, suc_ℤ, pred_ℤ}
 use lib.ListN.{drop}
-use Rattle.lists.specs.Lists.{if◌then◌else◌, filter, without}
+use Rattle.lists.specs.Lists.{filter, without}
 use Rattle.lists.proofs.Bools.{split}
 use Rattle.rules.specs.Calls.{below0}
 use Rattle.promises.specs.Record.{standing, WaitNumber, stands, Account, still_blocked, take_smallest, strike, among, waited, signalled, killed, change}

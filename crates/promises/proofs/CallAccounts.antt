@@ -1,4 +1,5 @@
 -- One call keeps every account right. Assumes nothing.
+use Rattle.std.specs.Prelude.{if◌then◌else◌}
 use Prim.Native.Nat.{ℕ}
 use mathlib.Core.Bool.{Bool, true, false}
 use mathlib.Core.List.{List, []}
@@ -7,7 +8,6 @@ use mathlib.Core.Path.{◌≡◌, refl, sym, ap, subst, ◌∙◌}
 use lib.Dec.{eqb, ltb}
 use lib.IntN.{ℤ, nat_abs}
 use borrow.Author.Tests.{eq-eqb, ne_eqb}
-use Rattle.lists.specs.Lists.{if◌then◌else◌}
 use Rattle.lists.proofs.Bools.{either}
 use Rattle.tables.specs.declared.State.TheVariants.{Waiting}
 use Rattle.tables.specs.declared.Tables.{Tables}

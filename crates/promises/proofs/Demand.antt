@@ -1,4 +1,5 @@
 -- Demand 3 holds after any list of requests. Assumes nothing.
+use Rattle.std.specs.Prelude.{if◌then◌else◌}
 use Prim.Native.Nat.{◌≤◌, suc, ℕ}
 use native.Mathlib.Omega.{arith}
 use mathlib.Core.Bool.{Bool, false, true, true≢false}
@@ -9,7 +10,7 @@ use mathlib.Core.Path.{◌∙◌, ◌≡◌, ap, refl, subst, sym}
 use lib.IntN.{ℤ}
 use lib.ListN.{length}
 use borrow.Author.Tests.{eq-eqb}
-use Rattle.lists.specs.Lists.{if◌then◌else◌, times}
+use Rattle.lists.specs.Lists.{times}
 use Rattle.tables.specs.declared.State.{State}
 use Rattle.tables.specs.declared.State.TheVariants.{Current, Free, Ready, Suspended, Waiting}
 use Rattle.tables.specs.declared.Semaphore.{Semaphore}

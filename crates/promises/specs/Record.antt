@@ -1,10 +1,10 @@
 -- The record of calls, and what it says of a semaphore.
-use Rattle.std.specs.Prelude.{ℕ, Bool, true, false, ◌&&◌, List, [], ◌∷◌, ◌++◌, ◌≢◌, ◌≡◌, eqb, ltb, ℤ, nat_abs}
+use Rattle.std.specs.Prelude.{if◌then◌else◌, ℕ, Bool, true, false, ◌&&◌, List, [], ◌∷◌, ◌++◌, ◌≢◌, ◌≡◌, eqb, ltb, ℤ, nat_abs}
 use Rattle.std.proofs.Math.Option.{Option, none, some}
 use Rattle.std.proofs.Math.IntN.{suc_ℤ, pred_ℤ}
 use Rattle.std.specs.Int.{w32}
 use Rattle.std.proofs.Common.{SFits}
-use Rattle.lists.specs.Lists.{Each, if◌then◌else◌, times}
+use Rattle.lists.specs.Lists.{Each, times}
 use Rattle.tables.specs.declared.Tables.{Tables}
 use Rattle.tables.specs.Readers.{current_of}
 use Rattle.rules.specs.declared.Answer.{Answer}

@@ -1,7 +1,6 @@
 -- The sum that demand 3 names: what the record adds up to as the count of a semaphore.
-use Rattle.std.specs.Prelude.{ℕ, suc, Bool, false, List, [], ◌∷◌, ℤ, pos, ◌+ℤ◌, ◌-ℤ◌}
+use Rattle.std.specs.Prelude.{if◌then◌else◌, ℕ, suc, Bool, false, List, [], ◌∷◌, ℤ, pos, ◌+ℤ◌, ◌-ℤ◌}
 use Rattle.std.proofs.Math.Option.{Option, none, some}
-use Rattle.lists.specs.Lists.{if◌then◌else◌}
 use Rattle.promises.specs.Record.{Entry, Account, still_blocked, among, change, Event, Sets, Ends, Signals, Waits, Kills, Nothing, event, account}
 
 -- the count that it was last made with or reset to, and how many signals, waits and kills of its waiters came later

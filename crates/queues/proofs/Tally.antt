@@ -1,4 +1,5 @@
 -- Who waits, by the state byte, and loops that sum, fill and tally, turn by turn. Assumes nothing.
+use Rattle.std.specs.Prelude.{if◌then◌else◌}
 use Prim.Native.Nat.{◌+◌, ◌-◌, ◌<◌, ◌≤◌, ℕ}
 use native.Mathlib.Omega.{arith}
 use mathlib.Core.Bool.{Bool, false}
@@ -10,7 +11,6 @@ use lib.Seq.{get_or-set_other, get_or-set_same}
 use borrow.Author.Tests.{eq-eqb, le-ltb, lt-ltb, ne_eqb}
 use Rattle.layout.specs.Bytes.{byte_state, from_bytes, waiting_from}
 use Rattle.layout.specs.Offsets.{states_at}
-use Rattle.lists.specs.Lists.{if◌then◌else◌}
 use Rattle.lists.specs.Numbers.{total}
 use Rattle.tables.specs.Limits.{process_limit, semaphore_limit}
 use Rattle.tables.specs.Readers.{state_of}

@@ -1,6 +1,5 @@
 -- A count squeezed into a byte, so that many are compared at a time.
-use Rattle.std.specs.Prelude.{ℕ, ◌+◌, ◌-◌, ◌<◌, ◌≡◌, List, ltb, ℤ, pos, negsuc, get_or, length}
-use Rattle.lists.specs.Lists.{if◌then◌else◌}
+use Rattle.std.specs.Prelude.{if◌then◌else◌, ℕ, ◌+◌, ◌-◌, ◌<◌, ◌≡◌, List, ltb, ℤ, pos, negsuc, get_or, length}
 use Rattle.layout.specs.Bytes.{count_at}
 
 -- no less than -128

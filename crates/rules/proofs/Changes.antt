@@ -1,4 +1,5 @@
 -- What each call changes in the semaphores as they are seen, when no check holds: nothing, or one of four changes. Assumes nothing.
+use Rattle.std.specs.Prelude.{if◌then◌else◌}
 use Prim.Native.Nat.{ℕ, ◌≤◌, ◌<◌}
 use mathlib.Core.Bool.{Bool, true, false, not, ◌||◌, true≢false}
 use mathlib.Core.List.{List, [], ◌∷◌, ◌++◌}
@@ -10,7 +11,7 @@ use lib.IntN.{ℤ, pos, negsuc, suc_ℤ, pred_ℤ, nat_abs}
 use lib.ListN.{drop}
 use lib.Signed.{lt_z, le_z}
 use borrow.Author.Tests.{ltb-false, eqb-false, leb-false}
-use Rattle.lists.specs.Lists.{if◌then◌else◌, without, first}
+use Rattle.lists.specs.Lists.{without, first}
 use Rattle.lists.proofs.Bools.{not-false, split}
 use Rattle.tables.specs.declared.State.{State}
 use Rattle.tables.specs.declared.State.TheVariants.{Waiting}

@@ -1,4 +1,5 @@
 -- A call is refused by the first check that holds, and then nothing changes; or no check holds, and it is done. Assumes nothing.
+use Rattle.std.specs.Prelude.{if◌then◌else◌}
 use Prim.Native.Nat.{◌+◌, ◌≤◌, zero, suc, ℕ}
 use native.Mathlib.Omega.{arith}
 use mathlib.Core.Bool.{Bool, ◌&&◌, false, not, true, true≢false}
@@ -9,7 +10,7 @@ use mathlib.Core.Path.{◌∙◌, ◌≡◌, refl, subst, sym}
 use lib.Dec.{leb, ltb}
 use lib.IntN.{ℤ, nat_abs}
 use borrow.Author.Tests.{eq-eqb, leb-true}
-use Rattle.lists.specs.Lists.{Each, if◌then◌else◌}
+use Rattle.lists.specs.Lists.{Each}
 use Rattle.lists.proofs.Bools.{both, split}
 use Rattle.tables.specs.declared.State.{State}
 use Rattle.tables.specs.declared.State.TheVariants.{Free, Current, Ready, Suspended, Waiting}

@@ -1,4 +1,5 @@
 -- Wait and signal: what they do to the semaphore that they name. Assumes nothing.
+use Rattle.std.specs.Prelude.{if◌then◌else◌}
 use Prim.Native.Nat.{ℕ, zero, suc}
 use native.Mathlib.Omega.{arith}
 use mathlib.Core.Bool.{true, false, true≢false}
@@ -8,7 +9,7 @@ use mathlib.Core.Path.{◌≡◌, refl, sym, ap, ◌∙◌}
 use lib.IntN.{ℤ, pos, negsuc, suc_ℤ, pred_ℤ}
 use lib.ListN.{length, drop, length-append}
 use borrow.Author.Tests.{ne_eqb}
-use Rattle.lists.specs.Lists.{if◌then◌else◌, without, first_or, first}
+use Rattle.lists.specs.Lists.{without, first_or, first}
 use Rattle.lists.proofs.Bools.{split}
 use Rattle.lists.proofs.ListLaws.{without-only}
 use Rattle.tables.specs.declared.State.TheVariants.{Waiting}

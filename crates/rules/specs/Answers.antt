@@ -1,6 +1,6 @@
 -- Answers, and the paper's number and value for each.
-use Rattle.std.specs.Prelude.{ℕ, eqb, leb, ltb, ℤ, negsuc, Bool, true, false, not, ◌&&◌, ◌||◌, List, [], ◌∷◌, ◌≡◌}
-use Rattle.lists.specs.Lists.{Each, if◌then◌else◌}
+use Rattle.std.specs.Prelude.{if◌then◌else◌, ℕ, eqb, leb, ltb, ℤ, negsuc, Bool, true, false, not, ◌&&◌, ◌||◌, List, [], ◌∷◌, ◌≡◌}
+use Rattle.lists.specs.Lists.{Each}
 use Rattle.tables.specs.declared.Tables.{Tables}
 use Rattle.rules.specs.declared.Answer.{Answer}
 use Rattle.rules.specs.declared.Answer.TheVariants.{Done, Refused}

@@ -1,9 +1,9 @@
 -- The eleven calls: the checks in order, what is done, the value.
-use Rattle.std.specs.Prelude.{ℕ, suc, ℤ, pos, negsuc, nat_abs, eqb, Bool, true, false, not, ◌||◌, List, [], ◌∷◌}
+use Rattle.std.specs.Prelude.{if◌then◌else◌, ℕ, suc, ℤ, pos, negsuc, nat_abs, eqb, Bool, true, false, not, ◌||◌, List, [], ◌∷◌}
 use Rattle.std.proofs.Math.IntN.{suc_ℤ, pred_ℤ}
 use Rattle.std.specs.Int.Signed.{lt_z, le_z}
 use Rattle.std.proofs.Math.Option.{Option, none, some}
-use Rattle.lists.specs.Lists.{if◌then◌else◌, filter, is_empty, first}
+use Rattle.lists.specs.Lists.{filter, is_empty, first}
 use Rattle.lists.specs.Numbers.{round_from}
 use Rattle.tables.specs.declared.State.{State}
 use Rattle.tables.specs.declared.State.TheVariants.{Free, Current, Ready, Suspended, Waiting}

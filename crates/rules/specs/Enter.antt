@@ -1,7 +1,6 @@
 -- A call by its number: 15, 13 and 14 in that order, then the call's own checks.
-use Rattle.std.specs.Prelude.{ℕ, zero, suc, ℤ, pos, negsuc, eqb, Bool, false, not, ◌||◌, List, [], ◌∷◌}
+use Rattle.std.specs.Prelude.{if◌then◌else◌, ℕ, zero, suc, ℤ, pos, negsuc, eqb, Bool, false, not, ◌||◌, List, [], ◌∷◌}
 use Rattle.std.proofs.Math.Option.{Option, none, some}
-use Rattle.lists.specs.Lists.{if◌then◌else◌}
 use Rattle.tables.specs.declared.Tables.{Tables}
 use Rattle.tables.specs.Readers.{current_of, nobody}
 use Rattle.tables.specs.Test.{sound_now}

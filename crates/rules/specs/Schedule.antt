@@ -1,6 +1,6 @@
 -- Who joins the ready list or a queue, where, and who runs then.
-use Rattle.std.specs.Prelude.{ℕ, ltb, Bool, false, ◌&&◌, List, [], ◌∷◌}
-use Rattle.lists.specs.Lists.{if◌then◌else◌, place}
+use Rattle.std.specs.Prelude.{if◌then◌else◌, ℕ, ltb, Bool, false, ◌&&◌, List, [], ◌∷◌}
+use Rattle.lists.specs.Lists.{place}
 use Rattle.tables.specs.declared.State.{State}
 use Rattle.tables.specs.declared.State.TheVariants.{Current, Ready, Waiting}
 use Rattle.tables.specs.declared.Tables.{Tables}

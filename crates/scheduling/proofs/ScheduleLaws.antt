@@ -1,4 +1,5 @@
 -- Scheduling, composed of moves along the row and stores. Assumes nothing.
+use Rattle.std.specs.Prelude.{if◌then◌else◌}
 use Prim.Native.Nat.{◌+◌, ◌<◌, ℕ}
 use native.Mathlib.Omega.{arith}
 use mathlib.Core.Bool.{Bool, false, true, true≢false}
@@ -10,7 +11,7 @@ use borrow.Author.Tests.{eq-eqb, le-ltb, ne_eqb}
 use Rattle.layout.specs.Bytes.{state_byte}
 use Rattle.layout.specs.Offsets.{states_at}
 use Rattle.layout.specs.Stands.{Stands, Tells, Turns}
-use Rattle.lists.specs.Lists.{filter, if◌then◌else◌, place, put_before, times, without}
+use Rattle.lists.specs.Lists.{filter, place, put_before, times, without}
 use Rattle.order.specs.Row.{below, found, placed}
 use Rattle.rules.specs.Schedule.{joining, make_ready, make_wait, reschedule, start_first, switch}
 use Rattle.tables.specs.Limits.{process_limit}

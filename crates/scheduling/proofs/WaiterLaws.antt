@@ -1,4 +1,5 @@
 -- All waiters become ready: the line is read first, then each is made ready. Assumes nothing.
+use Rattle.std.specs.Prelude.{if◌then◌else◌}
 use Prim.Native.Nat.{◌+◌, ◌<◌, ◌≤◌, ℕ}
 use native.Mathlib.Numerals.{add-one}
 use native.Mathlib.Omega.{arith}
@@ -12,7 +13,7 @@ use borrow.Author.Tests.{eq-eqb, le-ltb, lt-ltb, ne_eqb}
 use Rattle.layout.specs.Bytes.{state_byte}
 use Rattle.layout.specs.Offsets.{states_at}
 use Rattle.layout.specs.Stands.{Stands, Tells, Turns}
-use Rattle.lists.specs.Lists.{filter, if◌then◌else◌}
+use Rattle.lists.specs.Lists.{filter}
 use Rattle.order.specs.Row.{by_byte}
 use Rattle.rules.specs.Schedule.{make_all_ready, make_ready}
 use Rattle.tables.specs.Limits.{process_limit}

@@ -1,7 +1,6 @@
 -- Who runs, while a call is under way.
-use Rattle.std.specs.Prelude.{◌<◌, ℕ, List, [], ◌∷◌, ◌≡◌}
+use Rattle.std.specs.Prelude.{if◌then◌else◌, ◌<◌, ℕ, List, [], ◌∷◌, ◌≡◌}
 use Rattle.layout.specs.Stands.{Stands}
-use Rattle.lists.specs.Lists.{if◌then◌else◌}
 use Rattle.rules.specs.Schedule.{reschedule}
 use Rattle.tables.specs.Limits.{process_limit}
 use Rattle.tables.specs.Readers.{current_of, currents, state_of}

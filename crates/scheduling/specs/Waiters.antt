@@ -1,6 +1,6 @@
 -- All who wait, read before any is moved: each at its place in the row, and nobody at the other places.
-use Rattle.std.specs.Prelude.{ℕ, List, ltb, get_or}
-use Rattle.lists.specs.Lists.{filter, if◌then◌else◌}
+use Rattle.std.specs.Prelude.{if◌then◌else◌, ℕ, List, ltb, get_or}
+use Rattle.lists.specs.Lists.{filter}
 use Rattle.order.specs.Row.{by_byte}
 use Rattle.rules.specs.Schedule.{make_ready}
 use Rattle.tables.specs.Limits.{process_limit}

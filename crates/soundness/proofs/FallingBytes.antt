@@ -1,4 +1,5 @@
 -- A turn of the walk along the ready list. Assumes nothing.
+use Rattle.std.specs.Prelude.{if◌then◌else◌}
 use Prim.Native.Nat.{◌+◌, ◌-◌, ◌<◌, ◌≤◌, ℕ}
 use native.Mathlib.Omega.{arith}
 use mathlib.Core.Bool.{Bool, false, true}
@@ -9,7 +10,7 @@ use lib.ListN.{drop, get_or, length}
 use borrow.Author.Tests.{eq-eqb, ne_eqb}
 use Rattle.layout.specs.Bytes.{from_bytes}
 use Rattle.layout.specs.Offsets.{order_at, priorities_at, states_at}
-use Rattle.lists.specs.Lists.{falls, filter, if◌then◌else◌}
+use Rattle.lists.specs.Lists.{falls, filter}
 use Rattle.tables.specs.Limits.{process_limit}
 use Rattle.tables.specs.Readers.{line, priority_of, ready_list, state_of}
 use Rattle.tables.specs.States.{is_ready}

@@ -1,4 +1,5 @@
 -- Good bytes are sound tables, and who runs in them is known. Assumes nothing.
+use Rattle.std.specs.Prelude.{if◌then◌else◌}
 use Prim.Native.Nat.{◌<◌, ℕ}
 use native.Mathlib.Omega.{arith}
 use mathlib.Core.Bool.{Bool, false, not, true}
@@ -7,7 +8,6 @@ use mathlib.Core.Path.{◌∙◌, ◌≡◌, refl, sym}
 use lib.Dec.{eqb}
 use borrow.Author.Tests.{eq-eqb, ne_eqb}
 use Rattle.layout.specs.Bytes.{from_bytes, well_formed}
-use Rattle.lists.specs.Lists.{if◌then◌else◌}
 use Rattle.tables.specs.Readers.{current_of, nobody}
 use Rattle.tables.specs.Sound.{Sound}
 use Rattle.tables.specs.Test.{sound_now}

@@ -1,4 +1,5 @@
 -- The check's parts, joined to the test of soundness. Assumes nothing.
+use Rattle.std.specs.Prelude.{if◌then◌else◌}
 use Prim.Native.Nat.{◌*◌, ◌+◌, ◌-◌, ◌<◌, ◌≤◌, suc, zero, ℕ}
 use native.Mathlib.Nat.{zero-add}
 use native.Mathlib.Omega.{arith}
@@ -10,7 +11,7 @@ use lib.ListN.{get_or, length}
 use borrow.Author.Tests.{eq-eqb, eqb-true, leb-true, ne_eqb}
 use Rattle.layout.specs.Bytes.{from_bytes, well_formed}
 use Rattle.layout.specs.Offsets.{priorities_at}
-use Rattle.lists.specs.Lists.{falls, if◌then◌else◌}
+use Rattle.lists.specs.Lists.{falls}
 use Rattle.lists.specs.Numbers.{all, total}
 use Rattle.tables.specs.Limits.{priority_limit, process_limit, semaphore_limit}
 use Rattle.tables.specs.Readers.{current_of, currents, line, priority_of, process, queue, ready_list, semaphore, state_of, nobody}

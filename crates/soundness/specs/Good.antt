@@ -1,6 +1,5 @@
 -- What the check answers of any bytes.
-use Rattle.std.specs.Prelude.{Bool, ◌&&◌, List, ℕ}
-use Rattle.lists.specs.Lists.{if◌then◌else◌}
+use Rattle.std.specs.Prelude.{if◌then◌else◌, Bool, ◌&&◌, List, ℕ}
 use Rattle.tables.specs.Readers.{current_of, nobody}
 use Rattle.tables.specs.Test.{sound_now}
 use Rattle.layout.specs.Bytes.{from_bytes, well_formed}

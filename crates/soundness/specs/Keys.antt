@@ -1,6 +1,5 @@
 -- What the ready list is compared by.
-use Rattle.std.specs.Prelude.{ℕ, ◌+◌, List, eqb, get_or}
-use Rattle.lists.specs.Lists.{if◌then◌else◌}
+use Rattle.std.specs.Prelude.{if◌then◌else◌, ℕ, ◌+◌, List, eqb, get_or}
 use Rattle.tables.specs.declared.State.TheVariants.{Ready}
 use Rattle.layout.specs.Bytes.{state_byte}
 use Rattle.layout.specs.Offsets.{priorities_at, states_at}

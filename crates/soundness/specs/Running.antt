@@ -1,6 +1,5 @@
 -- Who runs, as the check finds it.
-use Rattle.std.specs.Prelude.{ℕ, ◌+◌, Bool, eqb, length}
-use Rattle.lists.specs.Lists.{if◌then◌else◌}
+use Rattle.std.specs.Prelude.{if◌then◌else◌, ℕ, ◌+◌, Bool, eqb, length}
 use Rattle.tables.specs.declared.State.{State}
 use Rattle.tables.specs.declared.Tables.{Tables}
 use Rattle.tables.specs.Limits.{process_limit}

@@ -1,6 +1,5 @@
 -- What the loops of the check add up.
-use Rattle.std.specs.Prelude.{ℕ, Bool}
-use Rattle.lists.specs.Lists.{if◌then◌else◌}
+use Rattle.std.specs.Prelude.{if◌then◌else◌, ℕ, Bool}
 use Rattle.lists.specs.Numbers.{total}
 use Rattle.tables.specs.declared.State.{State}
 use Rattle.tables.specs.declared.Tables.{Tables}

@@ -1,4 +1,5 @@
 -- The rows show exactly the queues. Assumes nothing.
+use Rattle.std.specs.Prelude.{if◌then◌else◌}
 use Prim.Native.Nat.{◌<◌, ◌≤◌, suc, zero, ℕ}
 use native.Mathlib.Omega.{arith}
 use mathlib.Core.Bool.{Bool, ◌&&◌, false, not, true}
@@ -8,7 +9,7 @@ use lib.Dec.{eqb}
 use lib.ListN.{drop, drop_of_length-le, get_or, length, take}
 use lib.Seq.{drop-cons, take_all, take-nil}
 use borrow.Author.Tests.{eq-eqb, eqb-true, ne_eqb}
-use Rattle.lists.specs.Lists.{at_place, filter, if◌then◌else◌, place_in, times}
+use Rattle.lists.specs.Lists.{at_place, filter, place_in, times}
 use Rattle.lists.specs.Numbers.{count_up}
 use Rattle.lists.proofs.Bools.{and_in, below?, bool_iff, both, either, split}
 use Rattle.lists.proofs.ListLaws.{filter-ext, filter-filter, filter-no, filter-only}

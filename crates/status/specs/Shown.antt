@@ -1,6 +1,5 @@
 -- The page read back: who is shown where.
-use Rattle.std.specs.Prelude.{ℕ, zero, suc, Bool, ◌&&◌, List, [], ◌∷◌, ◌++◌, eqb}
-use Rattle.lists.specs.Lists.{if◌then◌else◌}
+use Rattle.std.specs.Prelude.{if◌then◌else◌, ℕ, zero, suc, Bool, ◌&&◌, List, [], ◌∷◌, ◌++◌, eqb}
 use Rattle.tables.specs.declared.State.TheVariants.{Waiting}
 use Rattle.tables.specs.Limits.{process_limit}
 use Rattle.status.specs.declared.Row.{Row}

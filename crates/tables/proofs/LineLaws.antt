@@ -1,4 +1,5 @@
 -- What a change of one process does to every line, and what each line of laid tables holds. Assumes nothing.
+use Rattle.std.specs.Prelude.{if◌then◌else◌}
 use Prim.Native.Nat.{ℕ, zero, suc, ◌≤◌, ◌<◌}
 use native.Mathlib.Omega.{arith}
 use mathlib.Core.Bool.{Bool, true, false, not, ◌&&◌, true≢false, and-true, and-false}
@@ -9,7 +10,7 @@ use lib.Dec.{eqb}
 use lib.ListN.{length, get_or, set, get_or-eq_default}
 use lib.Seq.{get_or-set_same, get_or-set_other}
 use borrow.Author.Tests.{eq-eqb, ne_eqb, lt-ltb}
-use Rattle.lists.specs.Lists.{if◌then◌else◌, without, times}
+use Rattle.lists.specs.Lists.{without, times}
 use Rattle.lists.specs.Numbers.{count_up}
 use Rattle.lists.proofs.Bools.{either, below?}
 use Rattle.lists.proofs.ListLaws.{filter-leave, without-absent, times-filter, length-split, filter-no, passes, first_passes}

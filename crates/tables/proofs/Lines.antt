@@ -1,4 +1,5 @@
 -- What is counted by slot is what stands in the row: how long a line is, and who is current. Assumes nothing.
+use Rattle.std.specs.Prelude.{if◌then◌else◌}
 use Prim.Native.Nat.{ℕ, ◌<◌}
 use native.Mathlib.Omega.{arith}
 use mathlib.Core.Bool.{Bool, true, ◌&&◌}
@@ -7,7 +8,7 @@ use mathlib.Core.Path.{◌≡◌, refl}
 use lib.Dec.{eqb, ltb}
 use lib.ListN.{length, get_or}
 use borrow.Author.Tests.{eq-eqb, lt-ltb, ltb-true}
-use Rattle.lists.specs.Lists.{if◌then◌else◌, times, first_or, first}
+use Rattle.lists.specs.Lists.{times, first_or, first}
 use Rattle.lists.specs.Numbers.{all, total}
 use Rattle.lists.proofs.Bools.{and_in, bool_iff}
 use Rattle.lists.proofs.NumberLaws.{all-at, all_true}

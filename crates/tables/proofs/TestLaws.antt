@@ -1,4 +1,5 @@
 -- The test of soundness holds exactly when the tables are sound. Assumes nothing.
+use Rattle.std.specs.Prelude.{if◌then◌else◌}
 use Prim.Native.Nat.{ℕ, suc, ◌≤◌, ◌<◌}
 use native.Mathlib.Omega.{arith}
 use mathlib.Core.Bool.{Bool, true, false, ◌&&◌, ◌||◌, false≢true}
@@ -10,7 +11,7 @@ use lib.Dec.{eqb, ltb}
 use lib.IntN.{ℤ, pos, negsuc, nat_abs}
 use lib.ListN.{length, get_or}
 use borrow.Author.Tests.{eq-eqb, ne_eqb, lt-ltb, ltb-true, eqb-true}
-use Rattle.lists.specs.Lists.{if◌then◌else◌, times, AtMost, Falling}
+use Rattle.lists.specs.Lists.{times, AtMost, Falling}
 use Rattle.lists.specs.Numbers.{all}
 use Rattle.lists.proofs.Bools.{split, either, below?, both, and_in}
 use Rattle.lists.proofs.ListLaws.{length-empty}

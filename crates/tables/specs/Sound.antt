@@ -1,6 +1,6 @@
 -- When tables are sound, in the paper's words. `Test` has the test that is computed, and proofs/Sentences what follows from these facts by the row.
-use Rattle.std.specs.Prelude.{ℕ, suc, ◌≤◌, ◌<◌, ◌≡◌, true, false, ◌||◌, List, [], ◌≢◌, length, ℤ, pos, negsuc, ltb}
-use Rattle.lists.specs.Lists.{if◌then◌else◌, times, Falling}
+use Rattle.std.specs.Prelude.{if◌then◌else◌, ℕ, suc, ◌≤◌, ◌<◌, ◌≡◌, true, false, ◌||◌, List, [], ◌≢◌, length, ℤ, pos, negsuc, ltb}
+use Rattle.lists.specs.Lists.{times, Falling}
 use Rattle.tables.specs.declared.State.TheVariants.{Ready, Waiting}
 use Rattle.tables.specs.declared.Process.{Process}
 use Rattle.tables.specs.declared.Tables.{Tables}

@@ -1,7 +1,7 @@
 -- The test of soundness, as it is computed. proofs/TestLaws shows that it holds exactly when the tables are sound.
-use Rattle.std.specs.Prelude.{ℕ, suc, Bool, true, false, ◌&&◌, ◌||◌, List, [], ◌∷◌, length, get_or, ℤ, pos, negsuc, eqb, ltb, leb}
+use Rattle.std.specs.Prelude.{if◌then◌else◌, ℕ, suc, Bool, true, false, ◌&&◌, ◌||◌, List, [], ◌∷◌, length, get_or, ℤ, pos, negsuc, eqb, ltb, leb}
 use Rattle.std.proofs.Math.Option.{Option, none, some}
-use Rattle.lists.specs.Lists.{if◌then◌else◌, times, falls}
+use Rattle.lists.specs.Lists.{times, falls}
 use Rattle.lists.specs.Numbers.{all}
 use Rattle.tables.specs.declared.State.{State}
 use Rattle.tables.specs.declared.Process.{Process}

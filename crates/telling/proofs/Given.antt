@@ -1,4 +1,5 @@
 -- Each refusal number is given exactly when the paper's table (specs/Reasons) says, and at no other time. Assumes nothing.
+use Rattle.std.specs.Prelude.{if◌then◌else◌}
 use Prim.Native.Nat.{ℕ, ◌≤◌, ◌<◌}
 use native.Mathlib.Omega.{arith}
 use mathlib.Core.Bool.{Bool, true, false, not, ◌||◌, true≢false}
@@ -11,7 +12,7 @@ use lib.Signed.{◌≤ℤ◌, ◌<ℤ◌, le_z, lt_z}
 use mir.Syntax.{w32}
 use mir.Val.{SFits}
 use borrow.Author.Tests.{eqb-true, leb-true, ltb-true}
-use Rattle.lists.specs.Lists.{if◌then◌else◌, is_empty}
+use Rattle.lists.specs.Lists.{is_empty}
 use Rattle.lists.proofs.Bools.{not-true, not-false, split, either, below?}
 use Rattle.lists.proofs.Exactly.{Tests, tests-or, tests-not, tests-eqb, tests-lt_z, tests-le_z}
 use Rattle.lists.proofs.RoundLaws.{none_found, found_none}

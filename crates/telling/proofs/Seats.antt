@@ -1,4 +1,5 @@
 -- What each step of a call does to the seats: who is ready, in order, and who runs. Assumes nothing.
+use Rattle.std.specs.Prelude.{if◌then◌else◌}
 use Prim.Native.Nat.{ℕ, ◌≤◌, ◌<◌}
 use mathlib.Core.Bool.{true, false, not}
 use mathlib.Core.List.{List, [], ◌∷◌}
@@ -7,7 +8,7 @@ use mathlib.Core.Path.{◌≡◌, refl, sym, ap, ◌∙◌, fun_ext}
 use lib.Dec.{ltb}
 use lib.IntN.{ℤ, pos}
 use lib.ListN.{length, drop}
-use Rattle.lists.specs.Lists.{if◌then◌else◌, without, times, is_empty, first_or, first}
+use Rattle.lists.specs.Lists.{without, times, is_empty, first_or, first}
 use Rattle.lists.proofs.ListLaws.{without-only, one-or-none, without-first}
 use Rattle.lists.proofs.Bools.{split}
 use Rattle.tables.specs.declared.State.TheVariants.{Current, Ready, Suspended, Waiting}

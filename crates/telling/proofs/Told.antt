@@ -1,5 +1,6 @@
 -- Each call of the paper's table, told of sound tables in the paper's words (specs/Telling). A reader needs the statements;
 -- the proofs cite the other files. A number below 0 is refused, so what is done is told of numbers from 0 up. Assumes nothing.
+use Rattle.std.specs.Prelude.{if◌then◌else◌}
 use Prim.Native.Nat.{ℕ, suc}
 use mathlib.Core.Bool.{true, false, not, ◌||◌}
 use mathlib.Core.List.{List, [], ◌∷◌, ◌++◌}
@@ -9,7 +10,7 @@ use lib.Dec.{eqb}
 use lib.IntN.{ℤ, pos, suc_ℤ, pred_ℤ}
 use lib.ListN.{drop}
 use lib.Signed.{◌≤ℤ◌}
-use Rattle.lists.specs.Lists.{if◌then◌else◌, without, first}
+use Rattle.lists.specs.Lists.{without, first}
 use Rattle.lists.specs.Numbers.{FirstFrom}
 use Rattle.lists.proofs.Bools.{not-false}
 use Rattle.tables.specs.declared.State.TheVariants.{Current, Ready, Suspended, Waiting}

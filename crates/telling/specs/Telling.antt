@@ -1,6 +1,6 @@
 -- Words to tell what a call leaves: how each semaphore is seen, who is ready in which order, and who runs.
-use Rattle.std.specs.Prelude.{ℕ, ◌≤◌, ◌<◌, true, List, [], ◌∷◌, ◌++◌, ◌≢◌, ◌≡◌, ltb, ℤ, pos}
-use Rattle.lists.specs.Lists.{if◌then◌else◌, put_before, times, is_empty, first}
+use Rattle.std.specs.Prelude.{if◌then◌else◌, ℕ, ◌≤◌, ◌<◌, true, List, [], ◌∷◌, ◌++◌, ◌≢◌, ◌≡◌, ltb, ℤ, pos}
+use Rattle.lists.specs.Lists.{put_before, times, is_empty, first}
 use Rattle.tables.specs.declared.Tables.{Tables}
 use Rattle.tables.specs.Readers.{priority_of, ready_list, queue, currents}
 use Rattle.rules.specs.declared.Answer.TheVariants.{Done}
