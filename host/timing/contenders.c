@@ -87,10 +87,10 @@ const Contender contenders[] = {
     ENTRY(sse2_clang_O3, "C, same bytes, SSE2 by hand, clang -O3", LIBRARY),
     ENTRY(unchecked, "C, linked lists, no check, gcc -O3", LIBRARY),
 #ifdef NATIVE
-    ENTRY(native, "Cottonsedge, -march=native", LIBRARY_NATIVE),
-    ENTRY(linked_gcc_native, "C, linked lists, gcc -O3 -march=native", LIBRARY_NATIVE),
-    ENTRY(inplace_gcc_native, "C, same bytes, gcc -O3 -march=native", LIBRARY_NATIVE),
-    ENTRY(inplace_clang_native, "C, same bytes, clang -O3 -march=native", LIBRARY_NATIVE),
+    ENTRY(native, "Cottonsedge, -march=x86-64-v3", LIBRARY_NATIVE),
+    ENTRY(linked_gcc_native, "C, linked lists, gcc -O3 -march=x86-64-v3", LIBRARY_NATIVE),
+    ENTRY(inplace_gcc_native, "C, same bytes, gcc -O3 -march=x86-64-v3", LIBRARY_NATIVE),
+    ENTRY(inplace_clang_native, "C, same bytes, clang -O3 -march=x86-64-v3", LIBRARY_NATIVE),
 #endif
 };
 

@@ -36,7 +36,7 @@ static void print_first(size_t rounds)
         printf("| %s | %.0f | %.0f | %.2f | %.0f |\n", contenders[c].name, stream->least[c], stream->middle[c],
                ratio(stream, c), checks[c]);
     if (contenders_count > LIBRARY_NATIVE)
-        printf("\nThose with -march=native are beside the library compiled so.\n");
+        printf("\nThose with -march=x86-64-v3 are beside the library compiled so.\n");
 }
 
 static void print_others(void)
