@@ -34,7 +34,7 @@ typedef struct {
 extern const Contender contenders[];
 extern const size_t contenders_count;
 
-/* Their places: those of plain x86-64, then those of the machine at hand. */
+/* Their places: those of plain x86-64, then those for AVX2. */
 enum {
     LIBRARY,
     LINKED_GCC_O2,
