@@ -1,4 +1,4 @@
-// What the firmware calls, over numbers and lent bytes, and the call by value for callers in Rattle; nothing is asked of the caller.
+// The four entries that firmware calls, over numbers and lent bytes (`cottonsedge_c` exports them), and the call by value for callers in Rattle; nothing is asked of the caller.
 #![tactic(auto)]
 
 pub mod answer;

@@ -1,9 +1,7 @@
 -- The first byte, then each turn one free byte more behind what stands. Assumes nothing.
-use Prim.Native.Nat.{◌-◌, ◌<◌, ◌≤◌}
 use native.Mathlib.Omega.{arith}
 use mathlib.Core.Path.{◌∙◌, ◌≡◌, sym}
 use Rattle.tables.specs.Boot.{boot}
-use Rattle.layout.specs.Begun.{Begun}
 use Rattle.layout.specs.Offsets.{order_at, states_at}
 use Rattle.layout.proofs.BegunLaws.{begun-at, begun-next}
 use Rattle.cottonsedge.proofs.BootBytes.{first_byte, free-byte}

@@ -1,15 +1,8 @@
-use Prim.Native.Nat.{◌-◌, ◌<◌, ◌≤◌}
-use native.Mathlib.Omega.{arith}
-use mathlib.Core.Path.{◌∙◌, ◌≡◌, sym}
+use Prim.Native.Nat.{◌<◌, ◌≤◌}
 use Rattle.tables.specs.Boot.{boot}
 use Rattle.layout.specs.Begun.{Begun}
 use Rattle.layout.specs.Offsets.{order_at, states_at}
-use Rattle.layout.proofs.BegunLaws.{begun-at, begun-next}
-use Rattle.cottonsedge.proofs.BootBytes.{first_byte, free-byte}
 use Rattle.cottonsedge.proofs.boot.put_free.Given as goal
 
 abbrev pub invariant-loop-i : goal.invariant-loop-i
 invariant-loop-i l = (states_at < l.i) × (l.i ≤ order_at) × Begun boot l.i l.bytes
-
-abbrev pub decreases-loop-i : goal.decreases-loop-i
-decreases-loop-i l = order_at - l.i

@@ -1,10 +1,8 @@
 -- Each turn writes one place more, behind what stands. Assumes nothing.
-use Prim.Native.Nat.{◌+◌, ◌-◌, ◌≤◌}
+use Prim.Native.Nat.{◌+◌}
 use native.Mathlib.Omega.{arith}
 use mathlib.Core.Path.{◌∙◌, ◌≡◌, sym}
 use Rattle.tables.specs.Boot.{boot}
-use Rattle.tables.specs.Limits.{process_limit}
-use Rattle.layout.specs.Begun.{Begun}
 use Rattle.layout.specs.Offsets.{next_semaphore_at, order_at}
 use Rattle.layout.proofs.BegunLaws.{begun-at, begun-next}
 use Rattle.cottonsedge.proofs.BootBytes.{row-byte}

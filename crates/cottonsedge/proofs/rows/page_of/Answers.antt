@@ -24,7 +24,7 @@ pub returns-then-lent-many : goal.returns-then-lent-many
 returns-then-lent-many c =
     let bs = c.args.tables.now in
     let g = (known-good bs _ c.current-c.ensures c.if-c.false).0 in
-    let many = live-is bs 0 _ (λ i. (c.shared_slice_known-1.given i).fits) g c.live_count-many.ensures in
+    let many = live-is bs 0 _ (λ i. (c.type_inv.tables i).fits) g c.live_count-many.ensures in
     told_is bs _ _ _ _ (Refused 16) c.current-c.ensures c.pack-then-lent-many.ensures refl (answer-few bs _ g (rw many at c.if-lent-many.true))
 
 pub returns : goal.returns
@@ -33,6 +33,6 @@ returns c =
     let bs = c.args.tables.now in
     let g = (known-good bs _ c.current-c.ensures c.if-c.false).0 in
     let n = c.live_count-many.result in
-    let many = live-is bs 0 n (λ i. (c.shared_slice_known-1.given i).fits) g c.live_count-many.ensures in
+    let many = live-is bs 0 n (λ i. (c.type_inv.tables i).fits) g c.live_count-many.ensures in
     told_is bs _ _ _ n (Done (pos n)) c.current-c.ensures (c.pack-2.ensures ∙ ap (λ (z : ℤ). packed (Done z) c.current-c.result) (to_z_pos w32 n fits)) refl
     (answer-done bs _ g (rw many at c.if-lent-many.false) ∙ ap (λ (k : ℕ). Done (pos k)) (sym many))

@@ -1,11 +1,7 @@
 -- What stands after i characters is kept by the next; see ServingLaws. Assumes nothing.
-use Prim.Native.Nat.{◌-◌, ◌*◌, ◌≤◌}
 use native.Mathlib.Omega.{arith}
-use mathlib.Core.Path.{◌≡◌, refl, ◌∙◌}
-use lib.ListN.{length}
-use Rattle.lines.specs.Answers.{answer_length}
-use Rattle.feed.specs.Feed.{holding}
-use Rattle.feed.proofs.ServingLaws.{Serving, serving-start, space-lent, serving-next, serving-end}
+use mathlib.Core.Path.{refl, ◌∙◌}
+use Rattle.feed.proofs.ServingLaws.{serving-start, space-lent, serving-next, serving-end}
 use Rattle.feed.proofs.feed.feed_all.Goals as goal
 
 pub loop-i-init : goal.loop-i-init

@@ -1,10 +1,9 @@
 use Prim.Native.Nat.{◌-◌, ◌*◌, ◌≤◌}
-use native.Mathlib.Omega.{arith}
-use mathlib.Core.Path.{◌≡◌, refl, ◌∙◌}
+use mathlib.Core.Path.{◌≡◌}
 use lib.ListN.{length}
 use Rattle.lines.specs.Answers.{answer_length}
 use Rattle.feed.specs.Feed.{holding}
-use Rattle.feed.proofs.ServingLaws.{Serving, serving-start, space-lent, serving-next, serving-end}
+use Rattle.feed.proofs.ServingLaws.{Serving}
 use Rattle.feed.proofs.feed.feed_all.Given as goal
 
 abbrev pub invariant-loop-i : goal.invariant-loop-i

@@ -9,5 +9,4 @@ returns-then-c-eq10 c = rw c.if-c-eq10.true c.end_line.ensures
 
 pub returns : goal.returns
 returns c =
-    let start = c in
-    serves-other (holding start.args.tables.now start.args.part) start.args.c c.with-longer.result start.args.out.now (ne_eqb _ _ c.if-c-eq10.false) c.with-longer.ensures
+    serves-other (holding c.args.tables.now c.args.part) c.args.c c.with-longer.result c.args.out.now (ne_eqb _ _ c.if-c-eq10.false) c.with-longer.ensures

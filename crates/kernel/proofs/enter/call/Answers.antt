@@ -5,5 +5,4 @@ use Rattle.kernel.proofs.enter.call.Goals as goal
 
 pub returns : goal.returns
 returns c =
-    let start = c in
-    λ runs. leads-end _ _ _ _ _ _ _ (λ t S. sound-numbered S start.args.number start.args.a start.args.b) runs (handed-on _ _ _ start.ranges.a start.ranges.b _ _ _ (c.act-step.ensures runs)) c.finish.ensures
+    λ runs. leads-end _ _ _ _ _ _ _ (λ t S. sound-numbered S c.args.number c.args.a c.args.b) runs (handed-on _ _ _ c.ranges.a c.ranges.b _ _ _ (c.act-step.ensures runs)) c.finish.ensures

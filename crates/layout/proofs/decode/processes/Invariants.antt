@@ -1,4 +1,4 @@
-use Prim.Native.Nat.{◌-◌, ◌≤◌}
+use Prim.Native.Nat.{◌≤◌}
 use mathlib.Core.Path.{◌≡◌}
 use lib.ListN.{length, take}
 use Rattle.lists.specs.Numbers.{listed}
@@ -9,6 +9,3 @@ use Rattle.layout.proofs.decode.processes.Given as goal
 
 abbrev pub invariant-loop-i : goal.invariant-loop-i
 invariant-loop-i l = (l.i ≤ process_limit) × (length l.entries ≡ process_limit) × (take l.i l.entries ≡ take l.i (listed 0 process_limit (process_at l.bytes))) × (length l.bytes ≡ size)
-
-abbrev pub decreases-loop-i : goal.decreases-loop-i
-decreases-loop-i l = process_limit - l.i

@@ -1,4 +1,4 @@
-use Prim.Native.Nat.{◌-◌, ◌≤◌}
+use Prim.Native.Nat.{◌≤◌}
 use mathlib.Core.Path.{◌≡◌}
 use lib.ListN.{length, take}
 use Rattle.lists.specs.Numbers.{listed}
@@ -9,6 +9,3 @@ use Rattle.layout.proofs.decode.semaphores.Given as goal
 
 abbrev pub invariant-loop-i : goal.invariant-loop-i
 invariant-loop-i l = (l.i ≤ semaphore_limit) × (length l.entries ≡ semaphore_limit) × (take l.i l.entries ≡ take l.i (listed 0 semaphore_limit (semaphore_at l.bytes))) × (length l.bytes ≡ size)
-
-abbrev pub decreases-loop-i : goal.decreases-loop-i
-decreases-loop-i l = semaphore_limit - l.i

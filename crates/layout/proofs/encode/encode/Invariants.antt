@@ -1,10 +1,5 @@
-use Prim.Native.Nat.{◌-◌}
-use Rattle.layout.specs.Offsets.{size}
 use Rattle.layout.proofs.Written.{Written}
 use Rattle.layout.proofs.encode.encode.Given as goal
 
 abbrev pub invariant-loop-i : goal.invariant-loop-i
 invariant-loop-i l = Written l.t l.bytes l.i
-
-abbrev pub decreases-loop-i : goal.decreases-loop-i
-decreases-loop-i l = size - l.i

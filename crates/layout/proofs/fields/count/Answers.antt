@@ -7,6 +7,5 @@ use Rattle.layout.proofs.fields.count.Goals as goal
 
 pub returns : goal.returns
 returns c =
-    let start = c in
     let said = c.signed.ensures ∙ ap (to_z w32) c.word_at.ensures in
-    count-tells _ _ _ start.requires.1 (to_z-of_z w32 _ (record { sfits = c.signed.type_inv }) ∙ said)
+    count-tells _ _ _ c.requires.1 (to_z-of_z w32 _ (record { sfits = c.signed.type_inv }) ∙ said)

@@ -5,6 +5,5 @@ use Rattle.layout.proofs.fields.put_count.Goals as goal
 
 pub returns : goal.returns
 returns c =
-    let start = c in
-    let f = start.ranges.count in
-    rw (c.put_word.ensures, c.unsigned.ensures, to_z-of_z w32 _ f) (count-turns _ _ _ start.requires.1 f)
+    let f = c.ranges.count in
+    rw (c.put_word.ensures, c.unsigned.ensures, to_z-of_z w32 _ f) (count-turns _ _ _ c.requires.1 f)

@@ -1,5 +1,5 @@
 -- By the two cases of a line. Assumes nothing.
-use mathlib.Core.Path.{◌∙◌, refl, sym}
+use mathlib.Core.Path.{refl, sym}
 use lib.IntN.{ℤ}
 use mir.Syntax.{w32}
 use mir.Val.{SFits}

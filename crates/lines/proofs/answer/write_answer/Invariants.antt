@@ -1,10 +1,8 @@
-use Prim.Native.Nat.{suc, ◌-◌, ◌≤◌, ◌<◌}
-use native.Mathlib.Omega.{arith}
-use mathlib.Core.Path.{◌≡◌, refl, ◌∙◌}
+use Prim.Native.Nat.{◌≤◌, ◌<◌}
+use mathlib.Core.Path.{◌≡◌}
 use mathlib.Core.List.{◌++◌}
-use lib.ListN.{length, drop, length-set}
+use lib.ListN.{length, drop}
 use Rattle.lines.specs.Hex.{written}
-use Rattle.lines.proofs.AnswerLaws.{digit-stored, text-stored}
 use Rattle.lines.proofs.answer.write_answer.Given as goal
 
 abbrev pub invariant-loop-i : goal.invariant-loop-i

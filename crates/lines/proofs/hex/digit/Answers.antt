@@ -18,29 +18,18 @@ overflow_sub-result-then-is_between-2 c = omega (arith, between-low 65 70 c.args
 pub returns-then-is_between-2 : goal.returns-then-is_between-2
 unfolding digit_of
 returns-then-is_between-2 c =
-    let at-if1 = c in
-    let at-is-between = at-if1 in
-    rw (sym at-is-between.is_between.ensures ∙ at-if1.if-is_between.false, sym c.is_between-2.ensures ∙ c.if-is_between-2.true)
+    rw (sym c.is_between.ensures ∙ c.if-is_between.false, sym c.is_between-2.ensures ∙ c.if-is_between-2.true)
 
 pub overflow_sub-result-then-is_between-3 : goal.overflow_sub-result-then-is_between-3
 overflow_sub-result-then-is_between-3 c =
-    let start = c in
-    omega (arith, between-low 97 102 start.args.c (sym c.is_between-3.ensures ∙ c.if-is_between-3.true))
+    omega (arith, between-low 97 102 c.args.c (sym c.is_between-3.ensures ∙ c.if-is_between-3.true))
 
 pub returns-then-is_between-3 : goal.returns-then-is_between-3
 unfolding digit_of
 returns-then-is_between-3 c =
-    let at-if2 = c in
-    let at-is-between2 = at-if2 in
-    let at-if1 = at-is-between2 in
-    let at-is-between = at-if1 in
-    rw (sym at-is-between.is_between.ensures ∙ at-if1.if-is_between.false, sym at-is-between2.is_between-2.ensures ∙ at-if2.if-is_between-2.false, sym c.is_between-3.ensures ∙ c.if-is_between-3.true)
+    rw (sym c.is_between.ensures ∙ c.if-is_between.false, sym c.is_between-2.ensures ∙ c.if-is_between-2.false, sym c.is_between-3.ensures ∙ c.if-is_between-3.true)
 
 pub returns : goal.returns
 unfolding digit_of
 returns c =
-    let at-if2 = c in
-    let at-is-between2 = at-if2 in
-    let at-if1 = at-is-between2 in
-    let at-is-between = at-if1 in
-    rw (sym at-is-between.is_between.ensures ∙ at-if1.if-is_between.false, sym at-is-between2.is_between-2.ensures ∙ at-if2.if-is_between-2.false, sym c.is_between-3.ensures ∙ c.if-is_between-3.false)
+    rw (sym c.is_between.ensures ∙ c.if-is_between.false, sym c.is_between-2.ensures ∙ c.if-is_between-2.false, sym c.is_between-3.ensures ∙ c.if-is_between-3.false)

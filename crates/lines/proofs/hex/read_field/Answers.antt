@@ -1,10 +1,10 @@
 -- What is left reads on, behind the number so far, as the whole does; i digits make a number below 16 ^ i. Assumes nothing.
-use Prim.Native.Nat.{◌-◌, ◌^◌, ◌≤◌, ◌<◌}
+use Prim.Native.Nat.{◌<◌}
 use native.Mathlib.Omega.{arith}
-use mathlib.Core.Path.{◌≡◌, refl, sym, ◌∙◌}
-use lib.ListN.{length, drop, get_or}
+use mathlib.Core.Path.{refl, sym, ◌∙◌}
+use lib.ListN.{length, get_or}
 use borrow.Author.Tests.{le-leb, lt-leb}
-use Rattle.lines.specs.Hex.{digit_of, read_on, field_of}
+use Rattle.lines.specs.Hex.{digit_of, field_of}
 use Rattle.lines.proofs.HexLaws.{digit-more, digits-fit, read-digit, no_digit, read-end}
 use borrow.Author.Rules.{rules}
 use Rattle.lines.proofs.hex.read_field.Goals as goal
@@ -19,31 +19,25 @@ loop-i-init c = (search rules, search rules, search rules, refl)
 pub returns-then-d-ge16 : goal.returns-then-d-ge16
 unfolding field_of
 returns-then-d-ge16 c =
-    let turn = c in
-    let start = turn in
-    let part = start.args.part.now in
-    let i = turn.loop-i.i in
-    rw (le-leb (length part) 8 turn.loop-i.invariant.1) (sym (no_digit turn.loop-i.n part i (search rules) (omega (arith, c.digit-d.ensures))) ∙ turn.loop-i.invariant.3)
+    let part = c.args.part.now in
+    let i = c.loop-i.i in
+    rw (le-leb (length part) 8 c.loop-i.invariant.1) (sym (no_digit c.loop-i.n part i (search rules) (omega (arith, c.digit-d.ensures))) ∙ c.loop-i.invariant.3)
 
 pub overflow_mul-n : goal.overflow_mul-n
 overflow_mul-n c =
-    let turn = c in
-    omega (arith, digits-fit turn.loop-i.n 0 turn.loop-i.i turn.loop-i.invariant.2 (omega arith) (omega arith))
+    omega (arith, digits-fit c.loop-i.n 0 c.loop-i.i c.loop-i.invariant.2 (omega arith) (omega arith))
 
 pub overflow_add-n : goal.overflow_add-n
 overflow_add-n c =
-    let turn = c in
-    omega (arith, digits-fit turn.loop-i.n c.digit-d.result turn.loop-i.i turn.loop-i.invariant.2 c.if-d-ge16.false (omega arith))
+    omega (arith, digits-fit c.loop-i.n c.digit-d.result c.loop-i.i c.loop-i.invariant.2 c.if-d-ge16.false (omega arith))
 
 pub loop-i-preserved : goal.loop-i-preserved
 loop-i-preserved c =
-    let turn = c in
-    let start = turn in
-    let part = start.args.part.now in
-    let n = turn.loop-i.n in
-    let i = turn.loop-i.i in
+    let part = c.args.part.now in
+    let n = c.loop-i.n in
+    let i = c.loop-i.i in
     let small : digit_of (get_or part i 0) < 16 = rw (← c.digit-d.ensures) c.if-d-ge16.false in
-    rw c.digit-d.ensures (search rules, search rules, digit-more n (digit_of (get_or part i 0)) i turn.loop-i.invariant.2 small, read-digit n part i (omega arith) small ∙ turn.loop-i.invariant.3)
+    rw c.digit-d.ensures (search rules, search rules, digit-more n (digit_of (get_or part i 0)) i c.loop-i.invariant.2 small, read-digit n part i (omega arith) small ∙ c.loop-i.invariant.3)
 
 pub returns : goal.returns
 unfolding field_of

@@ -1,10 +1,7 @@
 use Prim.Native.Nat.{◌-◌, ◌^◌, ◌≤◌, ◌<◌}
-use native.Mathlib.Omega.{arith}
-use mathlib.Core.Path.{◌≡◌, refl, sym, ◌∙◌}
-use lib.ListN.{length, drop, get_or}
-use borrow.Author.Tests.{le-leb, lt-leb}
-use Rattle.lines.specs.Hex.{digit_of, read_on, field_of}
-use Rattle.lines.proofs.HexLaws.{digit-more, digits-fit, read-digit, no_digit, read-end}
+use mathlib.Core.Path.{◌≡◌}
+use lib.ListN.{length, drop}
+use Rattle.lines.specs.Hex.{read_on}
 use Rattle.lines.proofs.hex.read_field.Given as goal
 
 abbrev pub invariant-loop-i : goal.invariant-loop-i

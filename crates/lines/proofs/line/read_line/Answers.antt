@@ -12,17 +12,12 @@ slice_bounds-read_field-end c = sym (simp length-take (omega arith))
 
 pub request-requires : goal.request-requires
 request-requires c =
-    let at-read-field = c in
-    let start = at-read-field in
-    rw at-read-field.read_field.ensures (two_digits (take 2 start.args.line.now) (simp length-take (omega arith)))
+    rw c.read_field.ensures (two_digits (take 2 c.args.line.now) (simp length-take (omega arith)))
 
 pub returns-then-line-eq-LINE : goal.returns-then-line-eq-LINE
 unfolding line_of
 returns-then-line-eq-LINE c =
-    let at-read-field2 = c in
-    let at-read-field = at-read-field2 in
-    let at-if1 = at-read-field in
-    rw (eq-eqb _ 18 at-if1.if-line-eq-LINE.true) (c.request.ensures ∙ rw (at-read-field.read_field.ensures, at-read-field2.read_field-then-line-eq-LINE.ensures, c.read_field-then-line-eq-LINE-2.ensures))
+    rw (eq-eqb _ 18 c.if-line-eq-LINE.true) (c.request.ensures ∙ rw (c.read_field.ensures, c.read_field-then-line-eq-LINE.ensures, c.read_field-then-line-eq-LINE-2.ensures))
 
 pub returns-else-line-eq-LINE : goal.returns-else-line-eq-LINE
 unfolding line_of

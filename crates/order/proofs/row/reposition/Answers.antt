@@ -3,10 +3,8 @@ use Rattle.order.proofs.row.reposition.Goals as goal
 
 pub returns-then-place-p : goal.returns-then-place-p
 returns-then-place-p c =
-    let at-spot = c in
-    moved_down _ _ _ _ _ _ at-spot.spot-i.ensures.1 c.place.ensures c.if-place-p.true c.sink.ensures
+    moved_down _ _ _ _ _ _ c.spot-i.ensures.1 c.place.ensures c.if-place-p.true c.sink.ensures
 
 pub returns-else-place-p : goal.returns-else-place-p
 returns-else-place-p c =
-    let at-spot = c in
-    moved_up _ _ _ _ _ _ at-spot.spot-i.ensures.1 c.place.ensures c.if-place-p.false c.rise.ensures
+    moved_up _ _ _ _ _ _ c.spot-i.ensures.1 c.place.ensures c.if-place-p.false c.rise.ensures

@@ -8,13 +8,11 @@ loop-j-init c = (search rules, search rules, sink-start _ _ _ _)
 
 pub returns-then-passes : goal.returns-then-passes
 returns-then-passes c =
-    let at_place = c in
-    sink-stop _ _ _ _ _ _ at_place.loop-j.invariant.2 _ (search rules) _ _ at_place.place-y.ensures c.passes.ensures c.if-passes.true c.put_place.ensures
+    sink-stop _ _ _ _ _ _ c.loop-j.invariant.2 _ (search rules) _ _ c.place-y.ensures c.passes.ensures c.if-passes.true c.put_place.ensures
 
 pub loop-j-preserved : goal.loop-j-preserved
 loop-j-preserved c =
-    let at_place = c in
-    (search rules, search rules, sink-on _ _ _ _ _ _ at_place.loop-j.invariant.2 _ (search rules) _ _ at_place.place-y.ensures c.passes.ensures c.if-passes.false c.put_place-in-loop-j.ensures)
+    (search rules, search rules, sink-on _ _ _ _ _ _ c.loop-j.invariant.2 _ (search rules) _ _ c.place-y.ensures c.passes.ensures c.if-passes.false c.put_place-in-loop-j.ensures)
 
 pub returns : goal.returns
 returns c = sink-end _ _ _ _ _ _ c.loop-j.invariant.2 _ (search rules) (search rules) c.put_place-2.ensures

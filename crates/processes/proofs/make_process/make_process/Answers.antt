@@ -13,18 +13,15 @@ returns-then-priority-eq0 c =
 
 pub returns-then-i-eq-PROCESSES : goal.returns-then-i-eq-PROCESSES
 returns-then-i-eq-PROCESSES c =
-    let at-index = c in
-    let at = passed _ _ _ _ at-index.ranges.a at-index.index_below-index.ensures at-index.in-At.is in
-    make-8 at-index.args.a _ at c.if-priority-eq0.false _ _ _ c.next_process-from.ensures c.free_round-i.ensures.1 c.if-i-eq-PROCESSES.true
+    let at = passed _ _ _ _ c.ranges.a c.index_below-index.ensures c.in-At.is in
+    make-8 c.args.a _ at c.if-priority-eq0.false _ _ _ c.next_process-from.ensures c.free_round-i.ensures.1 c.if-i-eq-PROCESSES.true
 
 pub returns-in-Outside : goal.returns-in-Outside
 returns-in-Outside c = make-11 c.args.a _ (passed _ _ _ _ c.ranges.a c.index_below-index.ensures c.in-Outside.is)
 
 pub returns-else-i-eq-PROCESSES : goal.returns-else-i-eq-PROCESSES
 returns-else-i-eq-PROCESSES c =
-    let at-put-process = c in
-    let at-if1 = at-put-process in
-    let at = passed _ _ _ _ at-if1.ranges.a at-if1.index_below-index.ensures at-if1.in-At.is in
+    let at = passed _ _ _ _ c.ranges.a c.index_below-index.ensures c.in-At.is in
     let move = rw c.one_past.ensures at c.put_next_process.ensures in
-    let value = to_z_pos w32 at-put-process.free_round-i.result (search rules) in
-    make-process-done at-if1.args.a _ at at-if1.if-priority-eq0.false _ _ _ at-put-process.next_process-from.ensures at-put-process.free_round-i.ensures.1 _ _ at-put-process.put_process.ensures move _ value at-put-process.if-i-eq-PROCESSES.false
+    let value = to_z_pos w32 c.free_round-i.result (search rules) in
+    make-process-done c.args.a _ at c.if-priority-eq0.false _ _ _ c.next_process-from.ensures c.free_round-i.ensures.1 _ _ c.put_process.ensures move _ value c.if-i-eq-PROCESSES.false

@@ -1,4 +1,4 @@
-use Prim.Native.Nat.{◌+◌, ◌-◌, ◌≤◌}
+use Prim.Native.Nat.{◌+◌, ◌≤◌}
 use mathlib.Core.Path.{◌≡◌}
 use lib.ListN.{length}
 use Rattle.layout.specs.Bytes.{from_bytes}
@@ -11,6 +11,3 @@ use Rattle.queues.proofs.counts.block_fits.Given as goal
 
 abbrev pub invariant-loop-i : goal.invariant-loop-i
 invariant-loop-i l = (l.i ≤ block_limit) × (l.ok ≡ all l.i (λ j. counted_fits (from_bytes l.bytes) l.many l.more (l.from + j))) × (length l.bytes ≡ size) × (l.from + block_limit ≤ semaphore_limit)
-
-abbrev pub decreases-loop-i : goal.decreases-loop-i
-decreases-loop-i l = block_limit - l.i

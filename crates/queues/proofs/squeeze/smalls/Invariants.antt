@@ -1,4 +1,4 @@
-use Prim.Native.Nat.{◌*◌, ◌+◌, ◌-◌, ◌/◌, ◌≤◌}
+use Prim.Native.Nat.{◌*◌, ◌+◌, ◌/◌, ◌≤◌}
 use mathlib.Core.Path.{◌≡◌}
 use lib.ListN.{length}
 use Rattle.layout.specs.Offsets.{size}
@@ -8,6 +8,3 @@ use Rattle.queues.proofs.squeeze.smalls.Given as goal
 
 abbrev pub invariant-loop-j : goal.invariant-loop-j
 invariant-loop-j l = (l.j ≤ block_limit / lane_limit) × Squeezed l.bytes l.from (l.j * lane_limit) l.x × (length l.bytes ≡ size) × (l.from + block_limit ≤ semaphore_limit)
-
-abbrev pub decreases-loop-j : goal.decreases-loop-j
-decreases-loop-j l = block_limit / lane_limit - l.j

@@ -1,4 +1,4 @@
-use Prim.Native.Nat.{◌+◌, ◌-◌, ◌≤◌}
+use Prim.Native.Nat.{◌+◌, ◌≤◌}
 use mathlib.Core.Path.{◌≡◌}
 use lib.ListN.{length}
 use Rattle.layout.specs.Offsets.{size}
@@ -8,6 +8,3 @@ use Rattle.queues.proofs.squeeze.squeeze.Given as goal
 
 abbrev pub invariant-loop-i : goal.invariant-loop-i
 invariant-loop-i l = (l.i ≤ lane_limit) × Squeezed l.bytes l.from (l.at + l.i) l.x × (length l.bytes ≡ size) × (l.from + block_limit ≤ semaphore_limit) × (l.at + lane_limit ≤ block_limit)
-
-abbrev pub decreases-loop-i : goal.decreases-loop-i
-decreases-loop-i l = lane_limit - l.i

@@ -16,19 +16,17 @@ loop-i-init c = (search rules, c.requires.1, c.requires.2, search rules)
 
 pub bounds-bytes-i : goal.bounds-bytes-i
 bounds-bytes-i c =
-    let start = c in
-    let bs = start.args.bytes.now in
-    let l = formed-long bs start.requires.0 in
+    let bs = c.args.bytes.now in
+    let l = formed-long bs c.requires.0 in
     omega arith
 
 pub cell-s-requires : goal.cell-s-requires
 cell-s-requires c =
-    let start = c in
-    let bs = start.args.bytes.now in
+    let bs = c.args.bytes.now in
     let loop = c.loop-i in
     let i = loop.i in
     let h : i < process_limit = omega arith in
-    (search rules, formed-state bs start.requires.0 i h)
+    (search rules, formed-state bs c.requires.0 i h)
 
 pub overflow_add-many : goal.overflow_add-many
 overflow_add-many c =
@@ -38,19 +36,17 @@ overflow_add-many c =
 
 pub bounds-bytes-i-in-loop-i : goal.bounds-bytes-i-in-loop-i
 bounds-bytes-i-in-loop-i c =
-    let start = c in
-    let bs = start.args.bytes.now in
-    let l = formed-long bs start.requires.0 in
+    let bs = c.args.bytes.now in
+    let l = formed-long bs c.requires.0 in
     omega arith
 
 pub cell-r-requires : goal.cell-r-requires
 cell-r-requires c =
-    let start = c in
-    let bs = start.args.bytes.now in
+    let bs = c.args.bytes.now in
     let loop = c.loop-i in
     let i = loop.i in
     let h : half_limit + i < process_limit = omega arith in
-    (search rules, formed-state bs start.requires.0 (half_limit + i) h)
+    (search rules, formed-state bs c.requires.0 (half_limit + i) h)
 
 pub overflow_add-more : goal.overflow_add-more
 overflow_add-more c =

@@ -1,4 +1,4 @@
-use Prim.Native.Nat.{◌-◌, ◌≤◌}
+use Prim.Native.Nat.{◌≤◌}
 use mathlib.Core.Bool.{true}
 use mathlib.Core.Path.{◌≡◌}
 use Rattle.layout.specs.Bytes.{from_bytes, well_formed}
@@ -7,6 +7,3 @@ use Rattle.queues.proofs.waiters.tally.Given as goal
 
 abbrev pub invariant-loop-i : goal.invariant-loop-i
 invariant-loop-i l = (l.i ≤ half_limit) × Tallied (from_bytes l.bytes) 0 l.i l.many × Tallied (from_bytes l.bytes) half_limit l.i l.more × (well_formed l.bytes ≡ true)
-
-abbrev pub decreases-loop-i : goal.decreases-loop-i
-decreases-loop-i l = half_limit - l.i

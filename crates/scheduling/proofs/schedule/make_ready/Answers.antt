@@ -3,5 +3,4 @@ use Rattle.scheduling.proofs.schedule.make_ready.Goals as goal
 
 pub returns : goal.returns
 returns c =
-    let at-process = c in
-    ready-turns _ _ _ _ _ at-process.process-x.ensures c.reposition.ensures c.put_state.ensures
+    ready-turns _ _ _ _ _ c.process-x.ensures c.reposition.ensures c.put_state.ensures

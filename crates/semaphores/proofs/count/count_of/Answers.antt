@@ -13,8 +13,7 @@ count-requires c = let below = (chosen _ _ _ _ c.ranges.a c.in-Used.is c.used_se
 
 pub returns-in-Refusal : goal.returns-in-Refusal
 returns-in-Refusal c =
-    let start = c in
-    semaphore-refused start.args.a _ _ (chosen _ _ _ _ start.ranges.a c.in-Refusal.is c.used_semaphore-target.ensures) (Count start.args.a) (λ t. refl)
+    semaphore-refused c.args.a _ _ (chosen _ _ _ _ c.ranges.a c.in-Refusal.is c.used_semaphore-target.ensures) (Count c.args.a) (λ t. refl)
 
 pub returns-in-Used : goal.returns-in-Used
 returns-in-Used c =

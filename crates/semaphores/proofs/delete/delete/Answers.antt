@@ -8,16 +8,13 @@ use Rattle.semaphores.proofs.delete.delete.Goals as goal
 
 pub release-requires : goal.release-requires
 release-requires c =
-    let start = c in
-    (search rules, (chosen _ _ _ _ start.ranges.a c.in-Used.is c.used_semaphore-target.ensures).1)
+    (search rules, (chosen _ _ _ _ c.ranges.a c.in-Used.is c.used_semaphore-target.ensures).1)
 
 pub returns-in-Refusal : goal.returns-in-Refusal
 returns-in-Refusal c =
-    let start = c in
-    semaphore-refused start.args.a _ _ (chosen _ _ _ _ start.ranges.a c.in-Refusal.is c.used_semaphore-target.ensures) (Delete start.args.a) (λ t. refl)
+    semaphore-refused c.args.a _ _ (chosen _ _ _ _ c.ranges.a c.in-Refusal.is c.used_semaphore-target.ensures) (Delete c.args.a) (λ t. refl)
 
 pub returns-in-Used : goal.returns-in-Used
 returns-in-Used c =
-    let at-used-semaphore = c in
-    let w = chosen _ _ _ _ at-used-semaphore.ranges.a c.in-Used.is at-used-semaphore.used_semaphore-target.ensures in
+    let w = chosen _ _ _ _ c.ranges.a c.in-Used.is c.used_semaphore-target.ensures in
     delete-releases _ _ _ _ _ w c.release.ensures

@@ -8,22 +8,17 @@ use Rattle.semaphores.proofs.make_semaphore.make_semaphore.Goals as goal
 
 pub returns-then-below_zero : goal.returns-then-below_zero
 returns-then-below_zero c =
-    let start = c in
-    make-3 start.args.a _ (rw (to_z-of_z w32 start.args.a start.ranges.a) at (sym c.below_zero.ensures ∙ c.if-below_zero.true))
+    make-3 c.args.a _ (rw (to_z-of_z w32 c.args.a c.ranges.a) at (sym c.below_zero.ensures ∙ c.if-below_zero.true))
 
 pub returns-then-i-eq-SEMAPHORES : goal.returns-then-i-eq-SEMAPHORES
 returns-then-i-eq-SEMAPHORES c =
-    let start = c in
-    let h = rw (to_z-of_z w32 start.args.a start.ranges.a) at (sym c.below_zero.ensures ∙ c.if-below_zero.false) in
-    make-4 start.args.a h _ _ _ c.next_semaphore-from.ensures c.free_round-i.ensures.1 c.if-i-eq-SEMAPHORES.true
+    let h = rw (to_z-of_z w32 c.args.a c.ranges.a) at (sym c.below_zero.ensures ∙ c.if-below_zero.false) in
+    make-4 c.args.a h _ _ _ c.next_semaphore-from.ensures c.free_round-i.ensures.1 c.if-i-eq-SEMAPHORES.true
 
 pub returns : goal.returns
 returns c =
-    let at-put-semaphore = c in
-    let at-if1 = at-put-semaphore in
-    let start = at-if1 in
-    let h = rw (to_z-of_z w32 start.args.a start.ranges.a) at (sym at-if1.below_zero.ensures ∙ at-if1.if-below_zero.false) in
-    let put = rw (to_z-of_z w32 start.args.a start.ranges.a) at at-put-semaphore.put_semaphore.ensures in
+    let h = rw (to_z-of_z w32 c.args.a c.ranges.a) at (sym c.below_zero.ensures ∙ c.if-below_zero.false) in
+    let put = rw (to_z-of_z w32 c.args.a c.ranges.a) at c.put_semaphore.ensures in
     let move = rw c.one_past.ensures at c.put_next_semaphore.ensures in
-    let value = to_z_pos w32 at-put-semaphore.free_round-i.result (search rules) in
-    make-semaphore-done start.args.a h _ _ _ at-put-semaphore.next_semaphore-from.ensures at-put-semaphore.free_round-i.ensures.1 _ _ put move _ value at-put-semaphore.if-i-eq-SEMAPHORES.false
+    let value = to_z_pos w32 c.free_round-i.result (search rules) in
+    make-semaphore-done c.args.a h _ _ _ c.next_semaphore-from.ensures c.free_round-i.ensures.1 _ _ put move _ value c.if-i-eq-SEMAPHORES.false

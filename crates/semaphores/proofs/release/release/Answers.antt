@@ -7,13 +7,10 @@ use Rattle.semaphores.proofs.release.release.Goals as goal
 
 pub returns-then-w-eq-NOBODY : goal.returns-then-w-eq-NOBODY
 returns-then-w-eq-NOBODY c =
-    let start = c in
-    let put = rw (to_z-of_z w32 start.args.count start.ranges.count) at c.put_semaphore.ensures in
-    release-none _ (record { used = start.args.used; count = start.args.count }) (search rules) _ _ c.find-w.ensures _ put c.if-w-eq-NOBODY.true
+    let put = rw (to_z-of_z w32 c.args.count c.ranges.count) at c.put_semaphore.ensures in
+    release-none _ (record { used = c.args.used; count = c.args.count }) (search rules) _ _ c.find-w.ensures _ put c.if-w-eq-NOBODY.true
 
 pub returns : goal.returns
 returns c =
-    let at-picked = c in
-    let start = at-picked in
-    let put = rw (to_z-of_z w32 start.args.count start.ranges.count) at c.put_semaphore-2.ensures in
-    release-some _ (record { used = start.args.used; count = start.args.count }) (search rules) _ _ at-picked.find-w.ensures _ put _ _ at-picked.if-w-eq-NOBODY.false at-picked.picked-ps.ensures c.make_all_ready.ensures
+    let put = rw (to_z-of_z w32 c.args.count c.ranges.count) at c.put_semaphore-2.ensures in
+    release-some _ (record { used = c.args.used; count = c.args.count }) (search rules) _ _ c.find-w.ensures _ put _ _ c.if-w-eq-NOBODY.false c.picked-ps.ensures c.make_all_ready.ensures

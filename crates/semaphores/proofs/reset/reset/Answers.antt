@@ -9,25 +9,20 @@ use Rattle.semaphores.proofs.reset.reset.Goals as goal
 
 pub returns-then-below_zero : goal.returns-then-below_zero
 returns-then-below_zero c =
-    let start = c in
-    reset-3 start.args.a start.args.b _ (rw (to_z-of_z w32 start.args.b start.ranges.b) at (sym c.below_zero.ensures ∙ c.if-below_zero.true))
+    reset-3 c.args.a c.args.b _ (rw (to_z-of_z w32 c.args.b c.ranges.b) at (sym c.below_zero.ensures ∙ c.if-below_zero.true))
 
 pub release-requires : goal.release-requires
 release-requires c =
-    let start = c in
-    (search rules, (chosen _ _ _ _ start.ranges.a c.in-Used.is c.used_semaphore-target.ensures).1)
+    (search rules, (chosen _ _ _ _ c.ranges.a c.in-Used.is c.used_semaphore-target.ensures).1)
 
 pub returns-in-Refusal : goal.returns-in-Refusal
 returns-in-Refusal c =
-    let start = c in
-    let w = chosen _ _ _ _ start.ranges.a c.in-Refusal.is c.used_semaphore-target.ensures in
-    let h = rw (to_z-of_z w32 start.args.b start.ranges.b) at (sym c.below_zero.ensures ∙ c.if-below_zero.false) in
-    reset-refused start.args.a _ _ w start.args.b h
+    let w = chosen _ _ _ _ c.ranges.a c.in-Refusal.is c.used_semaphore-target.ensures in
+    let h = rw (to_z-of_z w32 c.args.b c.ranges.b) at (sym c.below_zero.ensures ∙ c.if-below_zero.false) in
+    reset-refused c.args.a _ _ w c.args.b h
 
 pub returns-in-Used : goal.returns-in-Used
 returns-in-Used c =
-    let at-used-semaphore = c in
-    let start = at-used-semaphore in
-    let w = chosen _ _ _ _ start.ranges.a c.in-Used.is at-used-semaphore.used_semaphore-target.ensures in
-    let h = rw (to_z-of_z w32 start.args.b start.ranges.b) at (sym at-used-semaphore.below_zero.ensures ∙ at-used-semaphore.if-below_zero.false) in
-    reset-releases _ _ _ _ _ w start.args.b h (rw (to_z-of_z w32 start.args.b start.ranges.b) at c.release.ensures)
+    let w = chosen _ _ _ _ c.ranges.a c.in-Used.is c.used_semaphore-target.ensures in
+    let h = rw (to_z-of_z w32 c.args.b c.ranges.b) at (sym c.below_zero.ensures ∙ c.if-below_zero.false) in
+    reset-releases _ _ _ _ _ w c.args.b h (rw (to_z-of_z w32 c.args.b c.ranges.b) at c.release.ensures)

@@ -12,49 +12,39 @@ use Rattle.semaphores.proofs.signal.signal.Goals as goal
 
 pub count-n-requires : goal.count-n-requires
 count-n-requires c =
-    let start = c in
-    (search rules, (chosen _ _ _ _ start.ranges.a c.in-Used.is c.used_semaphore-target.ensures).1)
+    (search rules, (chosen _ _ _ _ c.ranges.a c.in-Used.is c.used_semaphore-target.ensures).1)
 
 pub returns-then-is_full : goal.returns-then-is_full
 returns-then-is_full c =
-    let at-used-semaphore = c in
-    let w = chosen _ _ _ _ at-used-semaphore.ranges.a c.in-Used.is at-used-semaphore.used_semaphore-target.ensures in
+    let w = chosen _ _ _ _ c.ranges.a c.in-Used.is c.used_semaphore-target.ensures in
     let n = told-as _ _ _ _ (to_z-of_z w32 _ (record { sfits = c.count-n.type_inv })) c.count-n.ensures in
     signal-5 _ _ _ w _ n (sym c.is_full.ensures ∙ c.if-is_full.true)
 
 pub put_count-requires : goal.put_count-requires
 put_count-requires c =
-    let at-target2 = c in
-    (search rules, (chosen _ _ _ _ at-target2.ranges.a at-target2.in-Used.is at-target2.used_semaphore-target.ensures).1)
+    (search rules, (chosen _ _ _ _ c.ranges.a c.in-Used.is c.used_semaphore-target.ensures).1)
 
 pub overflow_add-s : goal.overflow_add-s
 overflow_add-s c =
-    let at-target2 = c in
-    let w = chosen _ _ _ _ at-target2.ranges.a at-target2.in-Used.is at-target2.used_semaphore-target.ensures in
+    let w = chosen _ _ _ _ c.ranges.a c.in-Used.is c.used_semaphore-target.ensures in
     record { fits = omega (arith, w.1) }
 
 pub returns-then-below_zero : goal.returns-then-below_zero
 returns-then-below_zero c =
-    let at-below-zero = c in
-    let at-is-full = at-below-zero in
-    let start = at-is-full in
-    let w = chosen _ _ _ _ start.ranges.a at-is-full.in-Used.is at-is-full.used_semaphore-target.ensures in
-    let n = told-as _ _ _ _ (to_z-of_z w32 _ (record { sfits = at-is-full.count-n.type_inv })) at-is-full.count-n.ensures in
-    let free = sym at-is-full.is_full.ensures ∙ at-below-zero.if-is_full.false in
-    let more = to_z-of_z w32 _ (record { sfits = at-below-zero.raised-m.type_inv }) ∙ at-below-zero.raised-m.ensures in
-    signal-free _ _ _ w _ n free _ more _ at-below-zero.put_count.ensures _ _ (sym at-below-zero.below_zero.ensures ∙ c.if-below_zero.true) c.find-w.ensures c.make_ready.ensures
+    let w = chosen _ _ _ _ c.ranges.a c.in-Used.is c.used_semaphore-target.ensures in
+    let n = told-as _ _ _ _ (to_z-of_z w32 _ (record { sfits = c.count-n.type_inv })) c.count-n.ensures in
+    let free = sym c.is_full.ensures ∙ c.if-is_full.false in
+    let more = to_z-of_z w32 _ (record { sfits = c.raised-m.type_inv }) ∙ c.raised-m.ensures in
+    signal-free _ _ _ w _ n free _ more _ c.put_count.ensures _ _ (sym c.below_zero.ensures ∙ c.if-below_zero.true) c.find-w.ensures c.make_ready.ensures
 
 pub returns-in-Refusal : goal.returns-in-Refusal
 returns-in-Refusal c =
-    let start = c in
-    semaphore-refused start.args.a _ _ (chosen _ _ _ _ start.ranges.a c.in-Refusal.is c.used_semaphore-target.ensures) (Signal start.args.a) (λ t. refl)
+    semaphore-refused c.args.a _ _ (chosen _ _ _ _ c.ranges.a c.in-Refusal.is c.used_semaphore-target.ensures) (Signal c.args.a) (λ t. refl)
 
 pub returns-else-below_zero : goal.returns-else-below_zero
 returns-else-below_zero c =
-    let at-if1 = c in
-    let at-used-semaphore = at-if1 in
-    let w = chosen _ _ _ _ at-used-semaphore.ranges.a at-if1.in-Used.is at-used-semaphore.used_semaphore-target.ensures in
-    let n = told-as _ _ _ _ (to_z-of_z w32 _ (record { sfits = at-if1.count-n.type_inv })) at-if1.count-n.ensures in
-    let free = sym at-if1.is_full.ensures ∙ at-if1.if-is_full.false in
+    let w = chosen _ _ _ _ c.ranges.a c.in-Used.is c.used_semaphore-target.ensures in
+    let n = told-as _ _ _ _ (to_z-of_z w32 _ (record { sfits = c.count-n.type_inv })) c.count-n.ensures in
+    let free = sym c.is_full.ensures ∙ c.if-is_full.false in
     let more = to_z-of_z w32 _ (record { sfits = c.raised-m.type_inv }) ∙ c.raised-m.ensures in
     signal-go _ _ _ w _ n free _ more _ c.put_count.ensures (sym c.below_zero.ensures ∙ c.if-below_zero.false)

@@ -1,4 +1,4 @@
-use Prim.Native.Nat.{◌-◌, ◌≤◌}
+use Prim.Native.Nat.{◌≤◌}
 use mathlib.Core.Path.{◌≡◌}
 use lib.ListN.{length}
 use Rattle.layout.specs.Bytes.{flag_plain}
@@ -9,6 +9,3 @@ use Rattle.soundness.proofs.form.flags_plain.Given as goal
 
 abbrev pub invariant-loop-i : goal.invariant-loop-i
 invariant-loop-i l = (l.i ≤ semaphore_limit) × (l.ok ≡ all l.i (flag_plain l.bytes)) × (length l.bytes ≡ size)
-
-abbrev pub decreases-loop-i : goal.decreases-loop-i
-decreases-loop-i l = semaphore_limit - l.i

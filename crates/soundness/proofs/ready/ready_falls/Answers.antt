@@ -14,56 +14,51 @@ loop-i-init c = (search rules, search rules, refl, search rules)
 
 pub overflow_cast-p : goal.overflow_cast-p
 overflow_cast-p c =
-    let start = c in
-    let bs = start.args.bytes.now in
+    let bs = c.args.bytes.now in
     let loop = c.loop-i in
-    let hp : get_or bs (order_at + loop.i) 0 < process_limit = start.requires.1 loop.i (omega arith) in
+    let hp : get_or bs (order_at + loop.i) 0 < process_limit = c.requires.1 loop.i (omega arith) in
     search (rules, hp)
 
 pub bounds-k-p : goal.bounds-k-p
 bounds-k-p c =
-    let start = c in
-    let bs = start.args.bytes.now in
+    let bs = c.args.bytes.now in
     let loop = c.loop-i in
-    let hp : get_or bs (order_at + loop.i) 0 < process_limit = start.requires.1 loop.i (omega arith) in
+    let hp : get_or bs (order_at + loop.i) 0 < process_limit = c.requires.1 loop.i (omega arith) in
     omega arith
 
 pub overflow_cast-v : goal.overflow_cast-v
 overflow_cast-v c =
-    let start = c in
-    let bs = start.args.bytes.now in
+    let bs = c.args.bytes.now in
     let i = c.loop-i.i in
-    let key = start.requires.2 (get_or bs (order_at + i) 0) (start.requires.1 i (omega arith)) in
-    let small = key-byte bs (λ n. (c.shared_slice_known-in-loop-i-1.given n).fits) (get_or bs (order_at + i) 0) in
+    let key = c.requires.2 (get_or bs (order_at + i) 0) (c.requires.1 i (omega arith)) in
+    let small = key-byte bs (λ n. (c.type_inv.bytes n).fits) (get_or bs (order_at + i) 0) in
     record { fits = omega arith }
 
 pub returns-then-last-v : goal.returns-then-last-v
 returns-then-last-v c =
-    let start = c in
-    let args = start.args in
+    let args = c.args in
     let bs = args.bytes.now in
     let loop = c.loop-i in
     let i = loop.i in
-    let named = start.requires.1 in
+    let named = c.requires.1 in
     let p = get_or bs (order_at + i) 0 in
     let v = get_or args.k.now p 0 in
     let hp : get_or bs (order_at + i) 0 < process_limit = named i (omega arith) in
-    let key = start.requires.2 p hp in
+    let key = c.requires.2 p hp in
     let stop = key-stop bs named i p (omega arith) refl loop.last v key loop.invariant.1 c.if-last-v.true in
     sym (sym (left-all bs (args.top - 1)) ∙ loop.invariant.2 ∙ stop)
 
 pub loop-i-preserved : goal.loop-i-preserved
 loop-i-preserved c =
-    let start = c in
-    let args = start.args in
+    let args = c.args in
     let bs = args.bytes.now in
     let loop = c.loop-i in
     let i = loop.i in
-    let named = start.requires.1 in
+    let named = c.requires.1 in
     let p = get_or bs (order_at + i) 0 in
     let v = get_or args.k.now p 0 in
     let hp : get_or bs (order_at + i) 0 < process_limit = named i (omega arith) in
-    let key = start.requires.2 p hp in
+    let key = c.requires.2 p hp in
     let e = c.latest-last.ensures in (
       search rules,
       rw e (key-some bs named i p (omega arith) refl loop.last v key loop.invariant.1),
@@ -73,7 +68,6 @@ loop-i-preserved c =
 
 pub returns : goal.returns
 returns c =
-    let start = c in
-    let args = start.args in
+    let args = c.args in
     let bs = args.bytes.now in
     sym (sym (left-all bs (args.top - 1)) ∙ c.loop-i.invariant.2 ∙ left-none bs (c.loop-i.last - 1) c.loop-i.i (omega arith))

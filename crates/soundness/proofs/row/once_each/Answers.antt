@@ -24,28 +24,25 @@ loop-i-init c = (search rules, sym (mask-ext process_limit _ (λ p. false) (λ p
 
 pub overflow_cast-seen : goal.overflow_cast-seen
 overflow_cast-seen c =
-    let start = c in
-    let bs = start.args.bytes.now in
+    let bs = c.args.bytes.now in
     let loop = c.loop-i in
-    let hp : get_or bs (order_at + loop.i) 0 < process_limit = start.requires.1 loop.i (omega arith) in
+    let hp : get_or bs (order_at + loop.i) 0 < process_limit = c.requires.1 loop.i (omega arith) in
     search (rules, hp)
 
 pub overflow_shl-seen : goal.overflow_shl-seen
 overflow_shl-seen c =
-    let start = c in
-    let bs = start.args.bytes.now in
+    let bs = c.args.bytes.now in
     let loop = c.loop-i in
-    let hp : get_or bs (order_at + loop.i) 0 < process_limit = start.requires.1 loop.i (omega arith) in
+    let hp : get_or bs (order_at + loop.i) 0 < process_limit = c.requires.1 loop.i (omega arith) in
     omega arith
 
 pub loop-i-preserved : goal.loop-i-preserved
 loop-i-preserved c =
-    let start = c in
-    let bs = start.args.bytes.now in
+    let bs = c.args.bytes.now in
     let loop = c.loop-i in
     let i = loop.i in
     let p = get_or bs (order_at + i) 0 in
-    let hp : p < process_limit = start.requires.1 i (omega arith) in
+    let hp : p < process_limit = c.requires.1 i (omega arith) in
     let o = (from_bytes bs).order in
     let f : ℕ → ℕ → Bool = λ n q. ltb 0 (times q (take n o)) in
     let here : p ≡ get_or o i 0 = sym (place-said bs i (omega arith)) in

@@ -1,4 +1,4 @@
-use Prim.Native.Nat.{◌-◌, ◌≤◌}
+use Prim.Native.Nat.{◌≤◌}
 use mathlib.Core.Path.{◌≡◌}
 use lib.Dec.{ltb}
 use lib.ListN.{length, take}
@@ -11,6 +11,3 @@ use Rattle.soundness.proofs.row.once_each.Given as goal
 
 abbrev pub invariant-loop-i : goal.invariant-loop-i
 invariant-loop-i l = (l.i ≤ process_limit) × (l.seen ≡ mask process_limit (λ p. ltb 0 (times p (take l.i (from_bytes l.bytes).order)))) × (length l.bytes ≡ size)
-
-abbrev pub decreases-loop-i : goal.decreases-loop-i
-decreases-loop-i l = process_limit - l.i

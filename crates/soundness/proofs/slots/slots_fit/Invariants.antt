@@ -1,4 +1,4 @@
-use Prim.Native.Nat.{◌-◌, ◌≤◌}
+use Prim.Native.Nat.{◌≤◌}
 use mathlib.Core.Bool.{◌||◌}
 use mathlib.Core.Path.{◌≡◌}
 use lib.Dec.{eqb}
@@ -13,6 +13,3 @@ use Rattle.soundness.proofs.slots.slots_fit.Given as goal
 
 abbrev pub invariant-loop-i : goal.invariant-loop-i
 invariant-loop-i l = (l.i ≤ process_limit) × (l.ok ≡ all l.i (λ p. eqb p 0 || slot_fits (process (from_bytes l.bytes) p))) × (length l.bytes ≡ size)
-
-abbrev pub decreases-loop-i : goal.decreases-loop-i
-decreases-loop-i l = process_limit - l.i

@@ -11,4 +11,4 @@ row_of-requires c = formed-long _ c.requires
 
 pub returns : goal.returns
 returns c =
-    row-from-is _ c.args.p _ _ (λ i. (c.shared_slice_known-1.given i).fits) c.requires c.live_from.ensures c.row_of.ensures
+    row-from-is _ c.args.p _ _ (λ i. (c.type_inv.bytes i).fits) c.requires c.live_from.ensures c.row_of.ensures
