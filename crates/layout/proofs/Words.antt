@@ -1,9 +1,11 @@
 -- Words of four bytes, low byte first: what is stored is read again. Assumes nothing.
 use Prim.Native.Nat.{◌%◌, ◌*◌, ◌+◌, ◌/◌, ◌<◌, ◌≤◌, suc, zero, ℕ}
 use native.Mathlib.Nat.{add-mul-mod_self_right, add-zero, div-add-mod', mod-eq_of_lt}
+use native.Mathlib.Numerals.{unary_clauses}
 use native.Mathlib.Omega.{arith}
-use mathlib.Core.List.{List}
-use mathlib.Core.Path.{◌∙◌, ◌≡◌, ap, sym}
+use mathlib.Core.List.{List, [], ◌∷◌}
+use mathlib.Core.Path.{◌∙◌, ◌≡◌, ap, refl, sym}
+use borrow.Rule.Slice.PartMut.{put_mid}
 use lib.ListN.{get_or, length, length-set, set}
 use lib.Seq.{get_or-set_other, get_or-set_same}
 use Rattle.layout.specs.Bytes.{of4, word_at, word_byte}
@@ -67,6 +69,14 @@ module _ (bs : List ℕ) (k : ℕ) where
 
 -- A word stored
 
+four-copied : (bs : List ℕ) (k a b c d : ℕ) → k + 4 ≤ length bs → put_mid k 4 bs (a ∷ b ∷ c ∷ d ∷ []) ≡ set (set (set (set bs k a) (k + 1) b) (k + 2) c) (k + 3) d
+four-copied [] k a b c d h = absurd (omega arith)
+four-copied (w ∷ []) zero a b c d h = absurd (omega arith)
+four-copied (w ∷ x ∷ []) zero a b c d h = absurd (omega arith)
+four-copied (w ∷ x ∷ y ∷ []) zero a b c d h = absurd (omega arith)
+four-copied (w ∷ x ∷ y ∷ z ∷ bs) zero a b c d h = refl
+four-copied (x ∷ bs) (suc k) a b c d h = let ih = four-copied bs k a b c d (omega arith) in let e = simp unary_clauses at ih in simp unary_clauses (ap (λ (l : List ℕ). x ∷ l) e)
+
 module _ (bs : List ℕ) (k n : ℕ) where
   abbrev one : List ℕ
   one = set bs k (word_byte n 0)
@@ -76,6 +86,10 @@ module _ (bs : List ℕ) (k n : ℕ) where
 
   abbrev three : List ℕ
   three = set two (k + 2) (word_byte n 2)
+
+  -- four bytes copied in at once are as many stores
+  pub word-copied : (m : ℕ) (ys : List ℕ) → m ≡ 4 → ys ≡ word_byte n 0 ∷ word_byte n 1 ∷ word_byte n 2 ∷ word_byte n 3 ∷ [] → k + 4 ≤ length bs → put_mid k m bs ys ≡ store4 bs k n
+  word-copied m ys e f h = rw (e, f) (four-copied bs k _ _ _ _ h)
 
   pub word-long : length (store4 bs k n) ≡ length bs
   word-long = simp length-set

@@ -1,4 +1,3 @@
 pub mod Offsets
 pub mod Bytes
 pub mod Stands
-pub mod Begun

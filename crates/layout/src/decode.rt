@@ -1,75 +1,50 @@
 // Lent bytes read as typed tables.
-ghost use Rattle.std.specs.Prelude.{◌≡◌, ◌+◌, ◌<◌, ◌≤◌, get_or, length};
+ghost use Rattle.std.specs.Prelude.{◌≡◌, ◌<◌};
 ghost use Rattle.lists.specs.Numbers.{listed};
 ghost use Rattle.tables.specs.Limits.{process_limit, semaphore_limit};
-ghost use Rattle.layout.specs.Offsets.{size};
-ghost use Rattle.layout.specs.Bytes.{from_bytes, process_at, semaphore_at};
+ghost use Rattle.layout.specs.Bytes.{from_bytes, place_at, process_at, semaphore_at};
 
 use crate::fields::process_at;
-use crate::offsets::{COUNTS, NEXT_PROCESS, NEXT_SEMAPHORE, ORDER, USED};
-use crate::word::{signed, word_at};
-use tables::{Process, Semaphore, State, Tables};
+use crate::offsets::{NEXT_PROCESS, NEXT_SEMAPHORE, ORDER, SIZE, USED};
+use crate::word::count_at;
+use std::array;
+use tables::{Process, Semaphore, Tables};
 
-fn processes(bytes: &[u8]) -> [Process; Tables::PROCESSES]
-    requires { length bytes.now ≡ size }
+fn processes(bytes: &[u8; SIZE]) -> [Process; Tables::PROCESSES]
     ensures { result ≡ listed 0 process_limit (process_at bytes.now) }
 {
-    let free = Process {
-        state: State::Free,
-        priority: 0,
-    };
-    let mut entries = [free; Tables::PROCESSES];
-    for i in 0..Tables::PROCESSES {
-        entries[i] = process_at(bytes, i);
-    }
-    entries
+    array::from_fn(|i| process_at(bytes, i))
 }
 
-fn semaphore_at(bytes: &[u8], s: usize) -> Semaphore
-    requires { (length bytes.now ≡ size) × (s < semaphore_limit) }
+fn semaphore_at(bytes: &[u8; SIZE], s: usize) -> Semaphore
+    requires { s < semaphore_limit }
     ensures { result ≡ semaphore_at bytes.now s }
 {
     Semaphore {
         used: bytes[USED + s] == 1,
-        count: signed(word_at(bytes, COUNTS + s * 4)),
+        count: count_at(bytes, s),
     }
 }
 
-fn semaphores(bytes: &[u8]) -> [Semaphore; Tables::SEMAPHORES]
-    requires { length bytes.now ≡ size }
+fn semaphores(bytes: &[u8; SIZE]) -> [Semaphore; Tables::SEMAPHORES]
     ensures { result ≡ listed 0 semaphore_limit (semaphore_at bytes.now) }
 {
-    let unused = Semaphore {
-        used: false,
-        count: 0,
-    };
-    let mut entries = [unused; Tables::SEMAPHORES];
-    for i in 0..Tables::SEMAPHORES {
-        entries[i] = semaphore_at(bytes, i);
-    }
-    entries
+    array::from_fn(|i| semaphore_at(bytes, i))
 }
 
-// The bytes from `k` on, one for each process.
-fn row_at(bytes: &[u8], k: usize) -> [u8; Tables::PROCESSES]
-    requires { k + process_limit ≤ length bytes.now }
-    ensures { result ≡ listed 0 process_limit (λ i. get_or bytes.now (k + i) 0) }
+fn row(bytes: &[u8; SIZE]) -> [u8; Tables::PROCESSES]
+    ensures { result ≡ listed 0 process_limit (place_at bytes.now) }
 {
-    let mut row = [0u8; Tables::PROCESSES];
-    for i in 0..Tables::PROCESSES {
-        row[i] = bytes[k + i];
-    }
-    row
+    array::from_fn(|i| bytes[ORDER + i])
 }
 
-pub fn decode(bytes: &[u8]) -> Tables
-    requires { length bytes.now ≡ size }
+pub fn decode(bytes: &[u8; SIZE]) -> Tables
     ensures { result ≡ from_bytes bytes.now }
 {
     Tables {
         processes: processes(bytes),
         semaphores: semaphores(bytes),
-        order: row_at(bytes, ORDER),
+        order: row(bytes),
         next_semaphore: bytes[NEXT_SEMAPHORE],
         next_process: bytes[NEXT_PROCESS],
     }

@@ -3,6 +3,7 @@
 pub mod decode;
 pub mod encode;
 pub mod fields;
+pub mod number;
 pub mod offsets;
 pub mod state;
 pub mod word;

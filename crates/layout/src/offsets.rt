@@ -20,7 +20,7 @@ pub const NEXT_PROCESS: usize = NEXT_SEMAPHORE + 1;
 
 pub const SIZE: usize = NEXT_PROCESS + 1;
 
-#[derive(Clone, Copy)]
+#[derive(Clone, Copy, PartialEq, Eq, Debug)]
 pub struct Starts {
     pub states: usize,
     pub priorities: usize,

@@ -15,9 +15,10 @@ pub const SUSPENDED: u8 = 3;
 
 pub const WAITING: u8 = 4;
 
-// The byte of a state that no table has: waiting on a number past the semaphores.
+// The byte of a state that no table has: waiting on a number past the semaphores. `state_byte` of the definitions has it, of all typed tables.
 const NO_STATE: u8 = 255;
 
+// Two functions and no `From`: `State` is declared in `tables`, so the language lets no `impl` of a trait of the library for it stand here (the orphan rule), and `tables` knows no bytes.
 pub fn state_byte(state: State) -> u8
     ensures { result ≡ state_byte state }
 {
@@ -26,29 +27,19 @@ pub fn state_byte(state: State) -> u8
         State::Current => CURRENT,
         State::Ready => READY,
         State::Suspended => SUSPENDED,
-        State::Waiting(s) => {
-            if s < Tables::SEMAPHORES as u8 {
-                return WAITING + s;
-            }
-            NO_STATE
-        }
+        State::Waiting(s) if s < Tables::SEMAPHORES as u8 => WAITING + s,
+        State::Waiting(_) => NO_STATE,
     }
 }
 
 pub fn byte_state(b: u8) -> State
     ensures { result ≡ byte_state b }
 {
-    if b == FREE {
-        return State::Free;
+    match b {
+        FREE => State::Free,
+        CURRENT => State::Current,
+        READY => State::Ready,
+        SUSPENDED => State::Suspended,
+        _ => State::Waiting(b - WAITING),
     }
-    if b == CURRENT {
-        return State::Current;
-    }
-    if b == READY {
-        return State::Ready;
-    }
-    if b == SUSPENDED {
-        return State::Suspended;
-    }
-    State::Waiting(b - WAITING)
 }

@@ -8,5 +8,6 @@ pub mod RoundLaws
 pub mod Bits
 pub mod Walks
 pub mod Places
-pub mod Filled
+pub mod Made
 pub mod Searches
+pub mod Folds

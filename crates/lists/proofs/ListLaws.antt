@@ -1,6 +1,6 @@
 -- Laws of the lists that the rules are written with. Assumes nothing.
 use Rattle.std.specs.Prelude.{if◌then◌else◌}
-use Prim.Native.Nat.{◌+◌, ◌<◌, ◌≤◌, min, suc, ℕ}
+use Prim.Native.Nat.{◌+◌, ◌≤◌, min, suc, ℕ}
 use native.Mathlib.Nat.{min-eq_left, min-eq_right, min-le_right}
 use native.Mathlib.Omega.{arith}
 use mathlib.Core.Path.{◌∙◌, ◌≡◌, ap, fun_ext, refl, sym}
@@ -8,8 +8,8 @@ use mathlib.Core.Logic.{◌≢◌}
 use mathlib.Core.Bool.{Bool, ◌&&◌, ◌||◌, false, not, true, and-true}
 use mathlib.Core.List.{List, [], ◌++◌, ◌∷◌, cons≢nil}
 use lib.Dec.{eqb}
-use lib.ListN.{get_or, length, length-take, replicate, set, take}
-use lib.Seq.{get_or-set_other, get_or-set_same, take_all}
+use lib.ListN.{length, length-take, replicate, take}
+use lib.Seq.{take_all}
 use borrow.Author.Tests.{eq-eqb, eqb-false, eqb-true, ne_eqb}
 use Rattle.lists.specs.Lists.{filter, place, put_before, take_out, times, without}
 use Rattle.lists.proofs.Bools.{below?, either, split}
@@ -209,13 +209,6 @@ put_before-ext test test' p [] h = refl
 put_before-ext test test' p (x ∷ xs) h =
     let ih = put_before-ext test test' p xs h in
     split (eqb x p) (λ e. rw e ih) (λ e. rw (e, h x (eqb-false x p e), ih))
-
--- a turn of a loop that fills an array
-pub filled-one : (f : ℕ → ℕ) (xs : List ℕ) (n v : ℕ) → n < length xs → ((k : ℕ) → k < n → get_or xs k 0 ≡ f k) → v ≡ f n → (k : ℕ) → k < n + 1 → get_or (set xs n v) k 0 ≡ f k
-filled-one f xs n v l so is k hk =
-    either k n
-    (λ e. rw e (get_or-set_same xs n v 0 l ∙ is))
-    (λ d. get_or-set_other xs n k v 0 d ∙ so k (omega arith))
 
 -- the first n, if there are so many
 pub take-least : (n : ℕ) (xs : List ℕ) → take (min n (length xs)) xs ≡ take n xs

@@ -44,16 +44,7 @@ count_up-append k (suc m) n j l hj hl =
     let a : l ≡ suc (m + n) = omega arith in
     rw a (ap (λ (z : List ℕ). k ∷ z) (count_up-append (suc k) m n j (m + n) (omega arith) refl))
 
--- what goes round finds first what it finds from k on
-pub round-first : (f : ℕ → Bool) (size k : ℕ) → first_or size (filter f (count_up k (size - k))) < size → first_or size (filter f (round_from size k)) ≡ first_or size (filter f (count_up k (size - k)))
-unfolding round_from first_or
-round-first f size k h = rw (filter-append f (count_up k (size - k)) (count_up 0 k)) (go (filter f (count_up k (size - k))) h)
-  where
-    go : (xs : List ℕ) → first_or size xs < size → first_or size (xs ++ filter f (count_up 0 k)) ≡ first_or size xs
-    go [] l = absurd (omega arith)
-    go (x ∷ xs) l = refl
-
--- and where that is nothing, what it finds from 0 on
+-- where nothing is found from k on, going round finds what is found from 0 on
 pub round-again : (f : ℕ → Bool) (size k : ℕ) → k ≤ size → filter f (count_up k (size - k)) ≡ [] → filter f (round_from size k) ≡ filter f (count_up 0 size)
 unfolding round_from
 round-again f size k h e =

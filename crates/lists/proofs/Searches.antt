@@ -1,4 +1,4 @@
--- The numbers below a limit that pass a test, from a number on, and the search for the first of them. Assumes nothing.
+-- The numbers below a limit that pass a test, from a number on. Assumes nothing.
 use Prim.Native.Nat.{◌+◌, ◌-◌, ◌<◌, ◌≤◌, suc, zero, ℕ}
 use native.Mathlib.Numerals.{add-one}
 use native.Mathlib.Omega.{arith}
@@ -34,24 +34,6 @@ module _ (f : ℕ → Bool) (limit : ℕ) where
   pub passing-none : (i : ℕ) → limit ≤ i → passing i ≡ []
   unfolding filter listed
   passing-none i h = let e : limit - i ≡ 0 = omega arith in rw e
-
-  -- The search
-
-  -- from i on it finds what it finds from k on
-  abbrev pub Finds : ℕ → ℕ → ℕ → Type 0
-  Finds d k i = first_or d (passing i) ≡ first_or d (passing k)
-
-  module _ (d k i : ℕ) (s : Finds d k i) where
-    pub find-here : i < limit → f i ≡ true → i ≡ first_or d (passing k)
-    unfolding first_or
-    find-here h e = sym (ap (first_or d) (passing-in i h e)) ∙ s
-
-    pub find-on : i < limit → f i ≡ false → Finds d k (i + 1)
-    find-on h e = sym (ap (first_or d) (passing-over i h e)) ∙ s
-
-    pub find-end : limit ≤ i → d ≡ first_or d (passing k)
-    unfolding first_or
-    find-end h = sym (ap (first_or d) (passing-none i h)) ∙ s
 
   -- One after the other
 

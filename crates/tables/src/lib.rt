@@ -5,7 +5,9 @@ ghost use Rattle.lists.specs.Numbers.{count_up};
 ghost use Rattle.tables.specs.Limits.{process_limit, semaphore_limit, priority_limit};
 ghost use Rattle.tables.specs.Boot.{boot as boot_tables};
 
-#[derive(Clone, Copy)]
+use std::array;
+
+#[derive(Clone, Copy, PartialEq, Eq, Debug)]
 pub enum State {
     Free,
     Current,
@@ -15,19 +17,20 @@ pub enum State {
     Waiting(u8),
 }
 
-#[derive(Clone, Copy)]
+#[derive(Clone, Copy, PartialEq, Eq, Debug)]
 pub struct Process {
     pub state: State,
     pub priority: u8,
 }
 
-#[derive(Clone, Copy)]
+// A flag beside the count, and no Option: a free entry that holds a count isn't sound, and comes back as it came (`enter`, `bytes_back`).
+#[derive(Clone, Copy, PartialEq, Eq, Debug)]
 pub struct Semaphore {
     pub used: bool,
     pub count: i32,
 }
 
-#[derive(Clone, Copy)]
+#[derive(Clone, Copy, PartialEq, Eq, Debug)]
 pub struct Tables {
     pub processes: [Process; Tables::PROCESSES],
     pub semaphores: [Semaphore; Tables::SEMAPHORES],
@@ -37,7 +40,7 @@ pub struct Tables {
     pub next_process: u8,
 }
 
-#[derive(Clone, Copy)]
+#[derive(Clone, Copy, PartialEq, Eq, Debug)]
 pub struct Limits {
     pub processes: usize,
     pub semaphores: usize,
@@ -48,11 +51,7 @@ pub struct Limits {
 fn rising() -> [u8; Tables::PROCESSES]
     ensures { result ≡ count_up 0 process_limit }
 {
-    let mut order = [0u8; Tables::PROCESSES];
-    for i in 0..Tables::PROCESSES {
-        order[i] = i as u8;
-    }
-    order
+    array::from_fn(|i| i as u8)
 }
 
 impl Tables {

@@ -3,4 +3,4 @@ use Rattle.layout.proofs.decode.decode.Goals as goal
 
 pub returns : goal.returns
 unfolding from_bytes
-returns c = rw (c.processes.ensures, c.semaphores.ensures, c.row_at.ensures)
+returns c = rw (c.processes.ensures, c.semaphores.ensures, c.row.ensures)

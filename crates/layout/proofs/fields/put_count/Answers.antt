@@ -6,4 +6,4 @@ use Rattle.layout.proofs.fields.put_count.Goals as goal
 pub returns : goal.returns
 returns c =
     let f = c.ranges.count in
-    rw (c.put_word.ensures, c.unsigned.ensures, to_z-of_z w32 _ f) (count-turns _ _ _ c.requires.1 f)
+    rw (c.put_count_at.ensures, to_z-of_z w32 _ f) (count-turns _ _ _ c.args.s.below f)

@@ -3,4 +3,4 @@ use Rattle.layout.proofs.Readers.{bool-byte}
 use Rattle.layout.proofs.fields.put_used.Goals as goal
 
 pub returns : goal.returns
-returns c = λ h. rw (bool-byte c.args.used) (used-turns _ _ _ h)
+returns c = rw (c.from.ensures, bool-byte c.args.used) (used-turns _ _ _ c.args.s.below)

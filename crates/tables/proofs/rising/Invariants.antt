@@ -1,7 +1,0 @@
-use Rattle.std.proofs.Common.{◌≡◌, length, take}
-use Rattle.lists.specs.Numbers.{count_up}
-use Rattle.tables.specs.Limits.{process_limit}
-use Rattle.tables.proofs.rising.Given as goal
-
-abbrev pub invariant-loop-i : goal.invariant-loop-i
-invariant-loop-i l = (length l.order ≡ process_limit) × (take l.i l.order ≡ take l.i (count_up 0 process_limit))
