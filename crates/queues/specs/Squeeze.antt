@@ -1,16 +1,6 @@
 -- A count squeezed into a byte, so that many are compared at a time.
-use Rattle.std.specs.Prelude.{if◌then◌else◌, ℕ, ◌+◌, ◌-◌, ◌<◌, ◌≡◌, List, ltb, ℤ, pos, negsuc, get_or, length}
+use Rattle.std.specs.Prelude.{if◌then◌else◌, ℕ, ◌+◌, ◌-◌, ◌<◌, ◌≡◌, Bool, ◌&&◌, ◌||◌, List, eqb, ltb, ℤ, pos, negsuc, get_or, length}
 use Rattle.layout.specs.Bytes.{count_at}
-
--- no less than -128
-abbrev pub floored : ℤ → ℤ
-floored (pos n) = pos n
-floored (negsuc n) = if ltb n 128 then negsuc n else negsuc 127
-
--- and no more than 127
-abbrev pub capped : ℤ → ℤ
-capped (pos n) = if ltb n 128 then pos n else pos 127
-capped (negsuc n) = negsuc n
 
 -- -128 to 127 as 0 to 255, and what lies outside as the nearest of them
 abbrev pub squeezed : ℤ → ℕ
@@ -19,7 +9,11 @@ squeezed (negsuc n) = if ltb n 128 then 127 - n else 0
 
 -- how many a squeezed count says are waiting
 abbrev pub claimed : ℕ → ℕ
-claimed x = if ltb x 128 then 128 - x else 0
+claimed x = 128 - x
+
+-- a squeezed count goes with so many waiting, if they are fewer than 128, and is 0 where the semaphore is free
+abbrev pub squeezed_fits : Bool → ℕ → ℕ → Bool
+squeezed_fits used x many = eqb (claimed x) many && (used || eqb x 128)
 
 -- counts packed at a time
 abbrev pub lane_limit : ℕ

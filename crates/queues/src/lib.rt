@@ -2,5 +2,6 @@
 #![tactic(auto)]
 
 pub mod counts;
+pub mod formed;
 pub mod squeeze;
 pub mod waiters;

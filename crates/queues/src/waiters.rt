@@ -1,9 +1,10 @@
 // How many wait on each semaphore.
-ghost use Rattle.std.specs.Prelude.{◌≡◌, true, ◌+◌, ◌<◌};
+ghost use Rattle.std.specs.Prelude.{◌≡◌, ◌+◌, ◌<◌};
 ghost use Rattle.tables.specs.Limits.{semaphore_limit};
-ghost use Rattle.layout.specs.Bytes.{from_bytes, waiting_from, well_formed};
+ghost use Rattle.layout.specs.Bytes.{from_bytes, waiting_from};
 ghost use Rattle.queues.specs.Tallies.{Tallied, cell_limit, cell_of, half_limit};
 
+use crate::formed::Formed;
 use layout::offsets::STATES;
 use layout::state::WAITING;
 use tables::Tables;
@@ -26,14 +27,16 @@ fn cell(i: usize, state: u8) -> usize
 }
 
 // The first half of the processes in `many`, the second in `more`. In place: an array handed back would be copied out of the cells just written.
-pub fn tally(many: &mut [u8; CELLS], more: &mut [u8; CELLS], bytes: &[u8])
-    requires { (well_formed bytes.now ≡ true) × Tallied (from_bytes bytes.now) 0 0 many.old × Tallied (from_bytes bytes.now) half_limit 0 more.old }
-    ensures { Tallied (from_bytes bytes.now) 0 half_limit many.new × Tallied (from_bytes bytes.now) half_limit half_limit more.new }
+// Tried: both halves zipped, 104 ns a check, and one tally a call, 105 (116 where 31 wait on one semaphore), where this takes 99 (100).
+pub fn tally(many: &mut [u8; CELLS], more: &mut [u8; CELLS], f: Formed)
+    requires { Tallied (from_bytes f.bytes.now) 0 0 many.old × Tallied (from_bytes f.bytes.now) half_limit 0 more.old }
+    ensures { Tallied (from_bytes f.entry.bytes.now) 0 half_limit many.new × Tallied (from_bytes f.entry.bytes.now) half_limit half_limit more.new }
 {
+    let bytes = f.bytes;
     for i in 0..HALF {
         let s = cell(i, bytes[STATES + i]);
-        many[s] = many[s] + 1;
+        many[s] += 1;
         let r = cell(i, bytes[STATES + (HALF + i)]);
-        more[r] = more[r] + 1;
+        more[r] += 1;
     }
 }

@@ -1,5 +1,4 @@
 -- A turn of the walk along the ready list. Assumes nothing.
-use Rattle.std.specs.Prelude.{if◌then◌else◌}
 use Prim.Native.Nat.{◌+◌, ◌-◌, ◌<◌, ◌≤◌, ℕ}
 use native.Mathlib.Omega.{arith}
 use mathlib.Core.Bool.{Bool, false, true}
@@ -94,11 +93,3 @@ module _ (bs : List ℕ) (named : (i : ℕ) → i < process_limit → get_or bs 
 
       pub key-some : 0 < latest_of last v
       key-some = either v 0 (λ e. rw (eq-eqb v 0 e) some) (λ d. rw (ne_eqb v 0 d) (omega arith))
-
--- a key is a byte and one at the most
-pub key-byte : (bs : List ℕ) → ((i : ℕ) → get_or bs i 0 < 256) → (p : ℕ) → key_of bs p ≤ 256
-key-byte bs byte p = go (eqb (get_or bs (states_at + p) 0) 2)
-  where
-    go : (b : Bool) → (if b then get_or bs (priorities_at + p) 0 + 1 else 0) ≤ 256
-    go true = let h = byte (priorities_at + p) in omega arith
-    go false = omega arith

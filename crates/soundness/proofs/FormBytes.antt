@@ -3,7 +3,10 @@ use Prim.Native.Nat.{suc, zero, ℕ}
 use mathlib.Core.Bool.{Bool, ◌&&◌, false, true}
 use mathlib.Core.List.{List}
 use mathlib.Core.Path.{◌≡◌, refl}
-use Rattle.layout.specs.Bytes.{flag_plain, place_named, state_named}
+use lib.ListN.{length}
+use borrow.Author.Tests.{eq-eqb}
+use Rattle.layout.specs.Bytes.{flag_plain, place_named, state_named, well_formed}
+use Rattle.layout.specs.Offsets.{size}
 use Rattle.lists.specs.Numbers.{all}
 use Rattle.tables.specs.Limits.{process_limit, semaphore_limit}
 
@@ -35,5 +38,7 @@ module _ (bs : List ℕ) where
   abbrev places : Bool
   places = all process_limit (place_named bs)
 
-  pub form-said : (all process_limit (λ i. state_named bs i && place_named bs i) && flags) ≡ (states && (flags && places))
-  form-said = rw (all_both process_limit (state_named bs) (place_named bs)) (and_last states places flags)
+  -- well formed is what is of the right length and passes both
+  pub form-said : length bs ≡ size → (b d : Bool) → b ≡ all process_limit (λ i. state_named bs i && place_named bs i) → d ≡ flags → (b && d) ≡ well_formed bs
+  unfolding well_formed
+  form-said l b d e k = rw (eq-eqb (length bs) size l, e, k, all_both process_limit (state_named bs) (place_named bs)) (and_last states places flags)

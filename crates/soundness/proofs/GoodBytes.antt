@@ -1,5 +1,6 @@
 -- Good bytes are sound tables, and who runs in them is known. Assumes nothing.
-use Rattle.std.specs.Prelude.{if◌then◌else◌}
+use Rattle.std.specs.Prelude.{None, Some, is_some, unwrap_or, if◌then◌else◌}
+use Rattle.std.proofs.lemmas.Option.{none-some, same_Some}
 use Prim.Native.Nat.{◌<◌, ℕ}
 use native.Mathlib.Omega.{arith}
 use mathlib.Core.Bool.{Bool, false, not, true}
@@ -14,7 +15,7 @@ use Rattle.tables.specs.Test.{sound_now}
 use Rattle.lists.proofs.Bools.{both, either, split}
 use Rattle.tables.proofs.Sentences.{current-below}
 use Rattle.tables.proofs.TestLaws.{checked-sound}
-use Rattle.soundness.specs.Good.{current_byte, good}
+use Rattle.soundness.specs.Good.{current_byte, good, runner_of_bytes}
 
 module _ (bs : List ℕ) (g : good bs ≡ true) where
   pub good-formed : well_formed bs ≡ true
@@ -26,6 +27,23 @@ module _ (bs : List ℕ) (g : good bs ≡ true) where
   good-sound = checked-sound (both (well_formed bs) (sound_now (from_bytes bs)) g).1
 
 -- bytes are good exactly if somebody is known to run
+pub none-bad : (bs : List ℕ) → None ≡ runner_of_bytes bs → good bs ≡ false
+unfolding runner_of_bytes
+none-bad bs e = split (good bs) (λ g. absurd (none-some (current_of (from_bytes bs)) (e ∙ rw g))) (λ g. g)
+
+pub some-good : (bs : List ℕ) (c : ℕ) → Some c ≡ runner_of_bytes bs → (good bs ≡ true) × (c ≡ current_of (from_bytes bs))
+unfolding runner_of_bytes
+some-good bs c e = split (good bs) (λ g. (g, same_Some c (current_of (from_bytes bs)) (e ∙ rw g))) (λ g. absurd (none-some c (sym (e ∙ rw g))))
+
+pub some_is : (bs : List ℕ) → is_some (runner_of_bytes bs) ≡ good bs
+unfolding runner_of_bytes
+some_is bs = split (good bs) (λ g. rw g) (λ g. rw g)
+
+-- the same of the byte that is told
+pub current-told : (bs : List ℕ) → unwrap_or (runner_of_bytes bs) nobody ≡ current_byte bs
+unfolding current_byte runner_of_bytes
+current-told bs = split (good bs) (λ g. rw g) (λ g. rw g)
+
 module _ (bs : List ℕ) (c : ℕ) (e : c ≡ current_byte bs) where
   pub unknown-bad : c ≡ nobody → good bs ≡ false
   unfolding current_byte

@@ -50,8 +50,5 @@ module _ (bs : List ℕ) where
       null-wrong h = sym (rw (first, second, third ∙ h))
 
       module _ (h3 : b ≡ true) (d : Bool) (slots : d ≡ all process_limit (λ p. eqb p 0 || slot_fits (process t p))) where
-        pub slots-wrong : d ≡ false → false ≡ laid_clauses t
-        slots-wrong h = sym (rw (first, second, third ∙ h3, sym slots ∙ h))
-
         pub row-left : d ≡ true → (e : Bool) → e ≡ once_each t.order → e ≡ laid_clauses t
         row-left h e row = row ∙ sym (rw (first, second, third ∙ h3, sym slots ∙ h))

@@ -4,3 +4,4 @@ pub mod LaidBytes
 pub mod Parts
 pub mod FormBytes
 pub mod GoodBytes
+pub mod Standing

@@ -1,5 +1,6 @@
 -- The check's parts, joined to the test of soundness. Assumes nothing.
-use Rattle.std.specs.Prelude.{if◌then◌else◌}
+use Rattle.std.specs.Prelude.{None, Some, if◌then◌else◌}
+use Rattle.std.proofs.lemmas.Option.{none-some, same_Some}
 use Prim.Native.Nat.{◌*◌, ◌+◌, ◌-◌, ◌<◌, ◌≤◌, suc, zero, ℕ}
 use native.Mathlib.Nat.{zero-add}
 use native.Mathlib.Omega.{arith}
@@ -14,7 +15,7 @@ use Rattle.layout.specs.Offsets.{priorities_at}
 use Rattle.lists.specs.Lists.{falls}
 use Rattle.lists.specs.Numbers.{all, total}
 use Rattle.tables.specs.Limits.{priority_limit, process_limit, semaphore_limit}
-use Rattle.tables.specs.Readers.{current_of, currents, line, priority_of, process, queue, ready_list, semaphore, state_of, nobody}
+use Rattle.tables.specs.Readers.{current_of, currents, line, priority_of, process, queue, ready_list, semaphore, state_of}
 use Rattle.tables.specs.States.{is_current, is_free, is_ready, waits_on}
 use Rattle.tables.specs.Test.{semaphores_fit, null_fits, once_each, ready_falls, semaphore_fits, shaped, slot_fits, sound_now}
 use Rattle.tables.specs.declared.State.{State}
@@ -87,8 +88,8 @@ module _ (bs : List ℕ) (wf : well_formed bs ≡ true) where
   pub unlaid : laid_clauses t ≡ false → sound_now t ≡ false
   unlaid h = opened ∙ rw h
 
-  unsound : sound_now t ≡ false → nobody ≡ runner_of t
-  unsound h = ap (λ (b : Bool). if b then current_of t else nobody) (sym h)
+  unsound : sound_now t ≡ false → None ≡ runner_of t
+  unsound h = ap (λ (b : Bool). if b then Some (current_of t) else None) (sym h)
 
   module _ (laid : laid_clauses t ≡ true) where
     -- the slots of laid tables, and their row
@@ -135,61 +136,57 @@ module _ (bs : List ℕ) (wf : well_formed bs ≡ true) where
           let f : ℕ → Bool = λ p. is_current (state_of t p) in
           rw (many-said is_current) (e ∙ weighed f process_limit, numbers-light f process_limit (omega arith))
 
-      alone : (length (currents t) ≡ 1 → ⊥) → nobody ≡ sole_of t
+      alone : (length (currents t) ≡ 1 → ⊥) → None ≡ sole_of t
       alone d = sym (rw (ne_eqb (length (currents t)) 1 d))
 
-      pub none-sole : w < process_limit → nobody ≡ sole_of t
+      pub none-sole : w < process_limit → None ≡ sole_of t
       none-sole h = alone (λ k. let a = weight in omega arith)
 
-      pub many-sole : process_limit + process_limit ≤ w → nobody ≡ sole_of t
+      pub many-sole : process_limit + process_limit ≤ w → None ≡ sole_of t
       many-sole h = alone (λ k. let a = weight in omega arith)
 
-      pub one-sole : process_limit ≤ w → w < process_limit + process_limit → w - process_limit ≡ sole_of t
+      pub one-sole : process_limit ≤ w → w < process_limit + process_limit → Some (w - process_limit) ≡ sole_of t
       one-sole a b =
           let h = weight in
           let one : length (currents t) ≡ 1 = omega arith in
           let is : current_of t ≡ numbers = current-sum t (order-long bs) row one in
-          omega arith ∙ sym is ∙ sym (rw (eq-eqb (length (currents t)) 1 one))
+          ap Some (omega arith ∙ sym is) ∙ sym (rw (eq-eqb (length (currents t)) 1 one))
 
-    module _ (c : ℕ) (e : c ≡ sole_of t) where
-      pub nobody-runs : c ≡ nobody → nobody ≡ runner_of t
-      nobody-runs k = go (eqb (length (currents t)) 1) refl
+    pub nobody-runs : None ≡ sole_of t → None ≡ runner_of t
+    nobody-runs e = go (eqb (length (currents t)) 1) refl
+      where
+        go : (b : Bool) → eqb (length (currents t)) 1 ≡ b → None ≡ runner_of t
+        go true q = absurd (none-some (current_of t) (e ∙ rw q))
+        go false q = unsound (opened ∙ ap (λ (b : Bool). laid_clauses t && (b && (ready_falls t && semaphores_fit t))) q ∙ ap (λ (b : Bool). b && false) laid)
+
+    module _ (c : ℕ) (e : Some c ≡ sole_of t) where
+      found : (eqb (length (currents t)) 1 ≡ true) × (c ≡ current_of t)
+      found = go (eqb (length (currents t)) 1) e
         where
-          go : (b : Bool) → eqb (length (currents t)) 1 ≡ b → nobody ≡ runner_of t
-          go true q =
-              let small = current-inside t (order-long bs) row (eqb-true (length (currents t)) 1 q) in
-              let is : c ≡ current_of t = e ∙ rw q in
-              absurd (omega arith)
-          go false q = unsound (opened ∙ ap (λ (b : Bool). laid_clauses t && (b && (ready_falls t && semaphores_fit t))) q ∙ ap (λ (b : Bool). b && false) laid)
+          go : (b : Bool) → Some c ≡ (if b then Some (current_of t) else None) → (b ≡ true) × (c ≡ current_of t)
+          go true q = (refl, same_Some c (current_of t) q)
+          go false q = absurd (none-some c (sym q))
 
-      module _ (some : c ≡ nobody → ⊥) where
-        found : (eqb (length (currents t)) 1 ≡ true) × (c ≡ current_of t)
-        found = go (eqb (length (currents t)) 1) e
-          where
-            go : (b : Bool) → c ≡ (if b then current_of t else nobody) → (b ≡ true) × (c ≡ current_of t)
-            go true q = (refl, q)
-            go false q = absurd (some q)
+      pub current-small : c < process_limit
+      current-small = subst (λ (p : ℕ). p < process_limit) (sym found.1) (current-inside t (order-long bs) row (eqb-true (length (currents t)) 1 found.0))
 
-        pub current-small : c < process_limit
-        current-small = subst (λ (p : ℕ). p < process_limit) (sym found.1) (current-inside t (order-long bs) row (eqb-true (length (currents t)) 1 found.0))
+      top : get_or bs (priorities_at + c) 0 + 1 - 1 ≡ priority_of t (current_of t)
+      top = omega arith ∙ sym (priority-said bs c current-small) ∙ ap (priority_of t) found.1
 
-        top : get_or bs (priorities_at + c) 0 + 1 - 1 ≡ priority_of t (current_of t)
-        top = omega arith ∙ sym (priority-said bs c current-small) ∙ ap (priority_of t) found.1
+      -- the ready list falls as its walk says, and each count goes with its queue as the tallies say
+      module _ (b : Bool) (falling : b ≡ falls (priority_of t) (get_or bs (priorities_at + c) 0 + 1 - 1) (ready_list t)) where
+        falls-said : ready_falls t ≡ b
+        unfolding ready_falls
+        falls-said = sym (falling ∙ ap (λ (p : ℕ). falls (priority_of t) p (ready_list t)) top)
 
-        -- the ready list falls as its walk says, and each count goes with its queue as the tallies say
-        module _ (b : Bool) (falling : b ≡ falls (priority_of t) (get_or bs (priorities_at + c) 0 + 1 - 1) (ready_list t)) where
-          falls-said : ready_falls t ≡ b
-          unfolding ready_falls
-          falls-said = sym (falling ∙ ap (λ (p : ℕ). falls (priority_of t) p (ready_list t)) top)
+        left : (q : Bool) → semaphores_fit t ≡ q → sound_now t ≡ (b && q)
+        left q k = opened ∙ rw (laid, found.0, falls-said, k)
 
-          left : (q : Bool) → semaphores_fit t ≡ q → sound_now t ≡ (b && q)
-          left q k = opened ∙ rw (laid, found.0, falls-said, k)
+        pub not-falling : b ≡ false → None ≡ runner_of t
+        not-falling h = unsound (left (semaphores_fit t) refl ∙ ap (λ (x : Bool). x && semaphores_fit t) h)
 
-          pub not-falling : b ≡ false → nobody ≡ runner_of t
-          not-falling h = unsound (left (semaphores_fit t) refl ∙ ap (λ (x : Bool). x && semaphores_fit t) h)
+        pub not-fitting : b ≡ true → semaphores_fit t ≡ false → None ≡ runner_of t
+        not-fitting h k = unsound (left false k ∙ ap (λ (x : Bool). x && false) h)
 
-          pub not-fitting : b ≡ true → semaphores_fit t ≡ false → nobody ≡ runner_of t
-          not-fitting h k = unsound (left false k ∙ ap (λ (x : Bool). x && false) h)
-
-          pub runs : b ≡ true → semaphores_fit t ≡ true → c ≡ runner_of t
-          runs h k = found.1 ∙ ap (λ (x : Bool). if x then current_of t else nobody) (sym (left true k ∙ ap (λ (x : Bool). x && true) h))
+        pub runs : b ≡ true → semaphores_fit t ≡ true → Some c ≡ runner_of t
+        runs h k = ap Some found.1 ∙ ap (λ (x : Bool). if x then Some (current_of t) else None) (sym (left true k ∙ ap (λ (x : Bool). x && true) h))

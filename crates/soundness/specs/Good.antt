@@ -1,5 +1,5 @@
 -- What the check answers of any bytes.
-use Rattle.std.specs.Prelude.{if◌then◌else◌, Bool, ◌&&◌, List, ℕ}
+use Rattle.std.specs.Prelude.{if◌then◌else◌, Bool, ◌&&◌, List, ℕ, Option, Some, None}
 use Rattle.tables.specs.Readers.{current_of, nobody}
 use Rattle.tables.specs.Test.{sound_now}
 use Rattle.layout.specs.Bytes.{from_bytes, well_formed}
@@ -9,5 +9,9 @@ unfoldable pub good : List ℕ → Bool
 good bs = well_formed bs && sound_now (from_bytes bs)
 
 -- who runs, of good bytes
+unfoldable pub runner_of_bytes : List ℕ → Option ℕ
+runner_of_bytes bs = if good bs then Some (current_of (from_bytes bs)) else None
+
+-- the same as a byte
 unfoldable pub current_byte : List ℕ → ℕ
 current_byte bs = if good bs then current_of (from_bytes bs) else nobody

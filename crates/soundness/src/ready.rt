@@ -1,14 +1,16 @@
 // Whether the ready list falls.
-ghost use Rattle.std.specs.Prelude.{◌≡◌, ℕ, ◌+◌, ◌-◌, ◌<◌, ◌≤◌, length, get_or};
+ghost use Rattle.std.specs.Prelude.{◌≡◌, ℕ, ◌+◌, ◌-◌, ◌<◌, ◌≤◌, get_or};
 ghost use Rattle.lists.specs.Lists.{falls};
 ghost use Rattle.tables.specs.Limits.{priority_limit, process_limit};
 ghost use Rattle.tables.specs.Readers.{priority_of, ready_list};
-ghost use Rattle.layout.specs.Offsets.{order_at, priorities_at, size};
+ghost use Rattle.layout.specs.Offsets.{priorities_at};
 ghost use Rattle.layout.specs.Bytes.{from_bytes};
 ghost use Rattle.soundness.specs.Keys.{key_from, key_of, latest_of};
 
-use layout::offsets::{ORDER, PRIORITIES, STATES};
+use layout::offsets::{NEXT_SEMAPHORE, ORDER, PRIORITIES, SIZE, STATES};
 use layout::state::READY;
+use queues::formed::Formed;
+use std::array;
 use tables::Tables;
 
 // A ready process as its priority and one, any other as 0.
@@ -23,15 +25,11 @@ fn key(state: u8, priority: u8) -> u8
 }
 
 // The keys in the order of the slots, so that they are made many at a time.
-pub fn keys(bytes: &[u8]) -> [u8; Tables::PROCESSES]
-    requires { (length bytes.now ≡ size) × ((p : ℕ) → p < process_limit → get_or bytes.now (priorities_at + p) 0 ≤ priority_limit) }
+pub fn keys(bytes: &[u8; SIZE]) -> [u8; Tables::PROCESSES]
+    requires { (p : ℕ) → p < process_limit → get_or bytes.now (priorities_at + p) 0 ≤ priority_limit }
     ensures { (p : ℕ) → p < process_limit → get_or result p 0 ≡ key_of bytes.now p }
 {
-    let mut k = [0u8; Tables::PROCESSES];
-    for i in 0..Tables::PROCESSES {
-        k[i] = key(bytes[STATES + i], bytes[PRIORITIES + i]);
-    }
-    k
+    array::from_fn(|i| key(bytes[STATES + i], bytes[PRIORITIES + i]))
 }
 
 // The key before the next one: that of the last ready process. In words, which the machine chooses between without widening bytes first.
@@ -45,14 +43,14 @@ fn latest(last: u32, v: u32) -> u32
 }
 
 // No key above `top`, nor above that of the ready process before it. Only unsound tables take the branch, so it is guessed right.
-pub fn ready_falls(bytes: &[u8], k: &[u8; Tables::PROCESSES], top: u32) -> bool
-    requires { (length bytes.now ≡ size) × ((i : ℕ) → i < process_limit → get_or bytes.now (order_at + i) 0 < process_limit) × ((p : ℕ) → p < process_limit → get_or k.now p 0 ≡ key_of bytes.now p) × (0 < top) }
-    ensures { result ≡ falls (priority_of (from_bytes bytes.now)) (top - 1) (ready_list (from_bytes bytes.now)) }
+pub fn ready_falls(f: Formed, k: &[u8; Tables::PROCESSES], top: u32) -> bool
+    requires { ((p : ℕ) → p < process_limit → get_or k.now p 0 ≡ key_of f.bytes.now p) × (0 < top) }
+    ensures { result ≡ falls (priority_of (from_bytes f.entry.bytes.now)) (top - 1) (ready_list (from_bytes f.entry.bytes.now)) }
 {
+    let bytes = f.bytes;
     let mut last = top;
-    for i in 0..Tables::PROCESSES {
-        let p = bytes[ORDER + i] as usize;
-        let v = k[p] as u32;
+    for place in &bytes[ORDER..NEXT_SEMAPHORE] {
+        let v = k[*place as usize] as u32;
         if last < v {
             return false;
         }

@@ -1,47 +1,41 @@
--- Each turn has one semaphore more of the block tested: its squeezed count says enough, since few wait. Assumes nothing.
-use Prim.Native.Nat.{◌+◌, ◌<◌}
+use Prim.Native.Nat.{◌+◌, ◌<◌, ℕ}
+use native.Mathlib.Nat.{zero-add}
 use native.Mathlib.Omega.{arith}
-use mathlib.Core.Path.{◌∙◌, ◌≡◌, sym}
+use mathlib.Core.Bool.{Bool}
+use mathlib.Core.Path.{◌∙◌, ◌≡◌, ap, refl}
+use lib.Dec.{eqb}
 use lib.ListN.{get_or}
+use Rattle.std.proofs.Common.{rules, tests}
+use Rattle.std.proofs.lemmas.Iterator.{YieldsList-from_range}
+use Rattle.std.proofs.lemmas.List.FromFn.{get_or-range_with_len}
 use Rattle.layout.specs.Bytes.{count_at, from_bytes}
+use Rattle.layout.specs.Offsets.{used_at}
 use Rattle.layout.proofs.Image.{semaphore-said}
-use Rattle.lists.proofs.NumberLaws.{all-next, all_none}
-use Rattle.queues.specs.Squeeze.{block_limit}
+use Rattle.lists.proofs.Folds.{folded-all}
+use Rattle.queues.specs.Squeeze.{block_limit, squeezed_fits}
 use Rattle.queues.specs.Tallies.{counted_fits}
-use borrow.Author.Rules.{rules}
+use Rattle.queues.proofs.Squeezing.{squeezed-fits}
 use Rattle.queues.proofs.counts.block_fits.Goals as goal
-use Rattle.queues.proofs.counts.block_fits.Goals.{In-loop-i}
+use Rattle.queues.proofs.counts.block_fits.Goals.{After-fold}
 
--- the counts of both tallies are small
-few : (c : In-loop-i) → get_or c.args.many.now (c.args.from + c.loop-i.i) 0 + get_or c.args.more.now (c.args.from + c.loop-i.i) 0 < 128
-few c =
-    let m = c.requires.3 (c.args.from + c.loop-i.i) in
-    let n = c.requires.4 (c.args.from + c.loop-i.i) in
-    omega arith
+-- the test of semaphore i of the block, as it is done
+abbrev test : After-fold → ℕ → Bool
+test c i =
+    let args = c.args in
+    let s = args.from + i in
+    squeezed_fits (eqb (get_or args.bytes.now (used_at + s) 0) 1) (get_or args.x.now i 0) (get_or args.tallies.many.now s 0 + get_or args.tallies.more.now s 0)
 
-pub loop-i-init : goal.loop-i-init
-loop-i-init c = (search rules, sym (all_none _), search rules, search rules)
-
-pub overflow_add-many : goal.overflow_add-many
-overflow_add-many c = record { fits = let l = few (goal.at.overflow_add-many c).In-loop-i in omega arith }
-
-pub count_fits-ok-requires : goal.count_fits-ok-requires
-count_fits-ok-requires c = few (goal.at.count_fits-ok-requires c).In-loop-i
-
-pub loop-i-preserved : goal.loop-i-preserved
-loop-i-preserved c =
+-- says of its count what is to be said, since few wait
+is : (c : After-fold) (i : ℕ) → i < block_limit → test c i ≡ counted_fits (from_bytes c.args.bytes.now) c.args.tallies.many.now c.args.tallies.more.now (c.args.from + i)
+is c i h =
     let args = c.args in
     let bs = args.bytes.now in
-    let loop = c.loop-i in
-    let i = loop.i in
-    let many = args.many.now in
-    let more = args.more.now in
     let s = args.from + i in
-    let said = c.count_fits-ok.ensures (count_at bs s) (c.requires.2.said i (omega arith)) in
-    let one : c.count_fits-ok.result ≡ counted_fits (from_bytes bs) many more s = said ∙ sym (rw (semaphore-said bs s (omega arith))) in
-    (search rules, all-next (λ j. counted_fits (from_bytes bs) many more (args.from + j)) i _ _ loop.invariant.1 one, search rules, search rules)
+    let many = args.tallies.few s in
+    let more = args.tallies.less s in
+    rw (c.requires.1.said i h, semaphore-said bs s (omega arith)) (squeezed-fits (eqb (get_or bs (used_at + s) 0) 1) (count_at bs s) _ (omega arith))
 
 pub returns : goal.returns
 returns c =
-    let k : c.loop-i.i ≡ block_limit = omega arith in
-    rw k at c.loop-i.invariant.1
+    folded-all c.fold.ensures.ran (YieldsList-from_range _ _ _ refl refl) (test c) (λ a x b q k. search (rules, tests)) block_limit refl 0
+    (λ i. counted_fits (from_bytes c.args.bytes.now) c.args.tallies.many.now c.args.tallies.more.now (c.args.from + i)) (λ i h. ap (test c) (get_or-range_with_len 0 block_limit i 0 h ∙ zero-add i) ∙ is c i h)

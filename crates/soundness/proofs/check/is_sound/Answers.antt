@@ -1,5 +1,5 @@
-use Rattle.soundness.proofs.GoodBytes.{known_is}
+use Rattle.soundness.proofs.GoodBytes.{some_is}
 use Rattle.soundness.proofs.check.is_sound.Goals as goal
 
 pub returns : goal.returns
-returns c = known_is c.args.bytes.now _ c.current.ensures
+returns c = rw (c.is_some.ensures, c.runner.ensures) (some_is _)

@@ -1,21 +1,15 @@
-use native.Mathlib.Omega.{arith}
-use mathlib.Core.Path.{◌≡◌, refl, sym}
+use Rattle.std.proofs.Common.{rules, tests, ltb}
 use Rattle.layout.specs.Bytes.{flag_plain}
+use Rattle.layout.specs.Offsets.{counts_at, used_at}
 use Rattle.tables.specs.Limits.{semaphore_limit}
-use Rattle.lists.proofs.NumberLaws.{all-next, all_none}
-use borrow.Author.Rules.{rules}
+use Rattle.std.proofs.lemmas.Iterator.{YieldsList-from_slice}
+use native.Mathlib.Omega.{arith}
+use mathlib.Core.Path.{ap}
+use Rattle.lists.proofs.Folds.{folded-all, part-at, part-long}
 use Rattle.soundness.proofs.form.flags_plain.Goals as goal
-
-pub loop-i-init : goal.loop-i-init
-loop-i-init c = (search rules, sym (all_none _), search rules)
-
-pub loop-i-preserved : goal.loop-i-preserved
-loop-i-preserved c =
-    let bs = c.args.bytes.now in
-    let loop = c.loop-i in
-    (search rules, all-next (flag_plain bs) loop.i _ _ loop.invariant.1 refl, search rules)
 
 pub returns : goal.returns
 returns c =
-    let k : c.loop-i.i ≡ semaphore_limit = omega arith in
-    rw k at c.loop-i.invariant.1
+    let bs = c.args.bytes.now in
+    folded-all c.fold.ensures.ran (YieldsList-from_slice _ c.iter.ensures.rest) (λ b. ltb b 2) (λ a x b q k. search (rules, tests)) semaphore_limit (part-long bs used_at counts_at (search rules)) 0 (flag_plain bs)
+    (λ i h. ap (λ b. ltb b 2) (part-at bs used_at counts_at i (omega arith)))

@@ -1,10 +1,7 @@
-use Prim.Native.Nat.{◌-◌, ◌<◌, ◌≤◌}
+use Prim.Native.Nat.{◌-◌, ◌<◌}
 use mathlib.Core.Path.{◌≡◌}
-use lib.ListN.{length}
-use Rattle.layout.specs.Offsets.{size}
-use Rattle.tables.specs.Limits.{process_limit}
 use Rattle.soundness.proofs.FallingBytes.{left}
 use Rattle.soundness.proofs.ready.ready_falls.Given as goal
 
-abbrev pub invariant-loop-i : goal.invariant-loop-i
-invariant-loop-i l = (l.i ≤ process_limit) × (0 < l.last) × (left l.bytes (l.top - 1) 0 ≡ left l.bytes (l.last - 1) l.i) × (length l.bytes ≡ size)
+abbrev pub invariant-loop-place : goal.invariant-loop-place
+invariant-loop-place l = (0 < l.last) × (left l.f.bytes.now (l.top - 1) 0 ≡ left l.f.bytes.now (l.last - 1) l.place-index)

@@ -1,16 +1,17 @@
 use native.Mathlib.Omega.{arith}
-use Rattle.layout.proofs.Image.{formed-long}
 use Rattle.soundness.proofs.Parts.{many-sole, none-sole, one-sole}
 use Rattle.soundness.proofs.running.sole.Goals as goal
-
-pub weight-w-requires : goal.weight-w-requires
-weight-w-requires c = formed-long c.args.bytes.now c.requires.0
-
-pub returns-then-w-lt-ONE : goal.returns-then-w-lt-ONE
-returns-then-w-lt-ONE c = none-sole c.args.bytes.now c.requires.0 c.requires.1 _ c.weight-w.ensures c.if-w-lt-ONE.true
+use Rattle.soundness.proofs.running.sole.Goals.{else-w-ge-ONE-via-then-w-ge-ONE+else-w, else-w-ge-ONE-via-else-w-ge-ONE}
 
 pub returns-then-w : goal.returns-then-w
-returns-then-w c = many-sole c.args.bytes.now c.requires.0 c.requires.1 _ c.weight-w.ensures c.if-w.true
+returns-then-w c =
+    let f = c.args.f in
+    one-sole f.bytes.now f.formed c.requires _ c.weight-w.ensures (omega arith) (omega arith)
 
-pub returns : goal.returns
-returns c = one-sole c.args.bytes.now c.requires.0 c.requires.1 _ c.weight-w.ensures (omega arith) (omega arith)
+pub returns-else-w-ge-ONE : goal.returns-else-w-ge-ONE
+returns-else-w-ge-ONE c =
+    let f = c.args.f in
+    elim c.else-w-ge-ONE.branch [
+      | else-w-ge-ONE-via-then-w-ge-ONE+else-w w ↦ many-sole f.bytes.now f.formed c.requires _ c.weight-w.ensures w.if-w.false
+      | else-w-ge-ONE-via-else-w-ge-ONE w ↦ none-sole f.bytes.now f.formed c.requires _ c.weight-w.ensures w.if-w-ge-ONE.false
+    ]

@@ -1,12 +1,10 @@
-use Prim.Native.Nat.{◌+◌, ◌≤◌}
+use Prim.Native.Nat.{◌+◌}
 use mathlib.Core.Path.{◌≡◌}
-use lib.ListN.{length}
 use Rattle.layout.specs.Bytes.{from_bytes}
-use Rattle.layout.specs.Offsets.{size}
 use Rattle.tables.specs.Limits.{process_limit}
 use Rattle.tables.specs.States.{is_current}
 use Rattle.soundness.specs.Sums.{sum_below}
 use Rattle.soundness.proofs.running.weight.Given as goal
 
 abbrev pub invariant-loop-i : goal.invariant-loop-i
-invariant-loop-i l = (l.i ≤ process_limit) × (l.sum ≡ sum_below (from_bytes l.bytes) is_current (λ p. process_limit + p) l.i) × (length l.bytes ≡ size)
+invariant-loop-i l = (l.sum ≡ sum_below (from_bytes l.bytes) is_current (λ p. process_limit + p) l.i)
