@@ -19,15 +19,14 @@ use Rattle.tables.specs.Sound.{Sound}
 use Rattle.tables.specs.declared.Tables.{Tables}
 use Rattle.cottonsedge.specs.Entries.{answer_of, bytes_after}
 use Rattle.cottonsedge.specs.Fields.{refusal_field}
-use Rattle.layout.proofs.Image.{bytes_back, stands_read}
 use Rattle.lists.proofs.Bools.{split}
 use Rattle.rules.proofs.Refusals.{numbered-ranged, numbered-refused, ranged-last}
-use Rattle.soundness.proofs.GoodBytes.{good-formed, good-sound}
 use Rattle.cottonsedge.proofs.Calls.{call-answer, call-bytes, call-packed, call-process, call-refusal, call-runs, call-value, value-fits}
 use Rattle.cottonsedge.proofs.Entry.{refused-answer, refused-bytes}
 use Rattle.cottonsedge.proofs.FieldLaws.{packed-small}
 use Rattle.cottonsedge.proofs.Standing.{sound-good}
 use Rattle.demands.specs.Demands.{Allowed, Asked, Bytes, Demand1, Result}
+use Rattle.demands.proofs.Lent.{lent}
 
 -- what the contract allows
 abbrev pub exact : List ℕ → Request → Result
@@ -81,7 +80,7 @@ unsound-demand1 bs q byte g =
 exact-demand1 : (bs : List ℕ) (q : Request) → Bytes bs → Asked q → Demand1 bs (exact bs q)
 exact-demand1 bs q byte k =
     split (good bs)
-    (λ g. let wf = good-formed bs g in subst (λ (x : List ℕ). Demand1 x (exact x q)) (bytes_back bs byte wf) (sound-demand1 (good-sound bs g) (stands_read bs byte wf).held.fits q k))
+    (λ g. let l = lent bs byte g in subst (λ (x : List ℕ). Demand1 x (exact x q)) l.back (sound-demand1 l.sound l.fits q k))
     (unsound-demand1 bs q byte)
 
 pub demand1 : (bs : List ℕ) (q : Request) (x : Result) → Bytes bs → Asked q → Allowed bs q x → Demand1 bs x

@@ -13,13 +13,12 @@ use Rattle.rules.specs.declared.Answer.TheVariants.{Done, Refused}
 use Rattle.soundness.specs.Good.{good}
 use Rattle.cottonsedge.specs.Entries.{answer_of}
 use Rattle.cottonsedge.specs.Fields.{refusal_field}
-use Rattle.layout.proofs.Image.{bytes_back, stands_read}
 use Rattle.lists.proofs.Bools.{split}
 use Rattle.telling.proofs.Given.{numbered-exactly}
-use Rattle.soundness.proofs.GoodBytes.{good-formed, good-sound}
 use Rattle.cottonsedge.proofs.Calls.{call-refusal}
 use Rattle.cottonsedge.proofs.Entry.{refused-answer}
 use Rattle.demands.specs.Demands.{Allowed, Asked, Bytes, Result, reasons_of_bytes}
+use Rattle.demands.proofs.Lent.{lent}
 
 -- a number that isn't 0 is a refusal's
 number-refused : (r : Answer) (n : ℕ) → n ≢ 0 → (number_of r ≡ n) ↔ (r ≡ Refused n)
@@ -29,9 +28,9 @@ number-refused (Refused m) n h = (ap Refused, ap number_of)
 -- the refusal of a call on sound tables is that of the rules
 pub sound-refusal : (bs : List ℕ) (q : Request) → Bytes bs → Asked q → good bs ≡ true → refusal_field (answer_of bs q.number q.a q.b) ≡ number_of (made (from_bytes bs) q).answer
 sound-refusal bs q byte k g =
-    let wf = good-formed bs g in
-    subst (λ (x : List ℕ). refusal_field (answer_of x q.number q.a q.b) ≡ number_of (made (from_bytes bs) q).answer) (bytes_back bs byte wf)
-    (call-refusal (good-sound bs g) (stands_read bs byte wf).held.fits q.number q.a q.b k.arguments.a k.arguments.b)
+    let l = lent bs byte g in
+    subst (λ (x : List ℕ). refusal_field (answer_of x q.number q.a q.b) ≡ number_of (made (from_bytes bs) q).answer) l.back
+    (call-refusal l.sound l.fits q.number q.a q.b k.arguments.a k.arguments.b)
 
 -- of others 15
 pub unsound-refusal : (bs : List ℕ) (q : Request) → good bs ≡ false → refusal_field (answer_of bs q.number q.a q.b) ≡ 15
@@ -48,7 +47,8 @@ module _ (bs : List ℕ) (q : Request) (byte : Bytes bs) (k : Asked q) (n : ℕ)
   sound-given : good bs ≡ true → Given
   sound-given g =
       let e = sound-refusal bs q byte k g in
-      let rules = numbered-exactly (good-sound bs g) (stands_read bs byte (good-formed bs g)).held.fits q.number q.a q.b n in
+      let l = lent bs byte g in
+      let rules = numbered-exactly l.sound l.fits q.number q.a q.b n in
       let refused = number-refused (made (from_bytes bs) q).answer n h in
       (λ w. inr (λ f. true≢false (sym g ∙ f), rules.0 (refused.0 (sym e ∙ w))), ⊎_elim (λ w. absurd (true≢false (sym g ∙ w.1))) (λ w. e ∙ refused.1 (rules.1 w.1)))
 

@@ -1,4 +1,5 @@
 pub mod SmallBytes
+pub mod Lent
 pub mod Demand1
 pub mod Given
 pub mod Named

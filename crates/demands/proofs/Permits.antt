@@ -17,17 +17,16 @@ use Rattle.tables.specs.Sound.{Sound}
 use Rattle.tables.specs.declared.Tables.{Tables}
 use Rattle.cottonsedge.proofs.Calls.{back, call-bytes}
 use Rattle.cottonsedge.proofs.Entry.{refused-bytes}
-use Rattle.layout.proofs.Image.{bytes_back, stands_read}
 use Rattle.lists.proofs.Bools.{split}
 use Rattle.promises.proofs.Permits.{no-null-wait}
 use Rattle.rules.proofs.Fits.{fits-numbered}
 use Rattle.rules.proofs.Kept.{sound-numbered}
 use Rattle.rules.proofs.Refusals.{numbered-cases}
-use Rattle.soundness.proofs.GoodBytes.{good-formed, good-sound}
 use Rattle.telling.proofs.Told.{null-lowers-none}
 use Rattle.demands.specs.Demands.{Allowed, Asked, Bytes, Demand2, Kernel, Result}
 use Rattle.demands.specs.Permits.{GoesOn}
 use Rattle.demands.specs.Sessions.{AllAsked, exchanges, record_seen}
+use Rattle.demands.proofs.Lent.{lent}
 use Rattle.demands.proofs.Sessions.{seen-record}
 
 -- a request of process 0 on sound tables
@@ -45,11 +44,11 @@ module _ (bs : List ℕ) (q : Request) (byte : Bytes bs) (k : Asked q) (z : curr
       let n = q.number in
       let a = q.a in
       let b = q.b in
-      let wf = good-formed bs h in
-      let S = good-sound bs h in
-      let F = (stands_read bs byte wf).held.fits in
+      let l = lent bs byte h in
+      let S = l.sound in
+      let F = l.fits in
       let left : from_bytes (bytes_after bs n a b) ≡ (made (from_bytes bs) q).tables =
-      ap (λ (x : List ℕ). from_bytes (bytes_after x n a b)) (sym (bytes_back bs byte wf)) ∙ ap from_bytes (call-bytes S F n a b) ∙ back (sound-numbered S n a b) (fits-numbered S F n a b k.arguments.a k.arguments.b).0 in
+      ap (λ (x : List ℕ). from_bytes (bytes_after x n a b)) (sym l.back) ∙ ap from_bytes (call-bytes S F n a b) ∙ back (sound-numbered S n a b) (fits-numbered S F n a b k.arguments.a k.arguments.b).0 in
       rw left (made-lowers-none S z q s g)
 
   unsound-lowers-none : good bs ≡ false → LowersNone

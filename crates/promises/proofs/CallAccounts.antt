@@ -17,7 +17,9 @@ use Rattle.tables.specs.Sound.{Sound}
 use Rattle.tables.proofs.States.{awaits-some}
 use Rattle.tables.proofs.LineLaws.{in-line-live}
 use Rattle.tables.proofs.Sentences.{waiter-used, sentences}
-use Rattle.rules.specs.Calls.{Call, Wait, Signal, MakeSemaphore, Delete, Reset, MakeProcess, Resume, Suspend, Kill, Yield, Count, deed, finish}
+use Rattle.rules.specs.declared.Call.{Call}
+use Rattle.rules.specs.declared.Call.TheVariants.{Wait, Signal, MakeSemaphore, Delete, Reset, MakeProcess, Resume, Suspend, Kill, Yield, Count}
+use Rattle.rules.specs.Calls.{deed, finish}
 use Rattle.rules.proofs.Resched.{Settled}
 use Rattle.rules.proofs.Effects.{Effect, settled-seen}
 use Rattle.rules.proofs.Changes.{change_of, Loses, Becomes, Allowed, call-changes}

@@ -5,7 +5,8 @@ use mathlib.Core.Option.{Option, none, some}
 use Rattle.tables.specs.declared.Tables.{Tables}
 use Rattle.tables.specs.Readers.{current_of}
 use Rattle.rules.specs.Answers.{◌when◌, refused}
-use Rattle.rules.specs.Calls.{Accepted, Call, deed, finish, step}
+use Rattle.rules.specs.declared.Call.{Call}
+use Rattle.rules.specs.Calls.{Accepted, deed, finish, step}
 use Rattle.rules.specs.Enter.{Form, form_of, call_of, spare, called, numbered}
 use Rattle.rules.proofs.Refusals.{unless-cases, step-cases}
 use Rattle.promises.specs.Record.{Event, Nothing, Request, accepted, answered, entered, entry_of, event, made}

@@ -8,7 +8,9 @@ use mathlib.Core.Path.{◌∙◌, ◌≡◌, ap, refl, sym}
 use lib.IntN.{ℤ}
 use Rattle.tables.specs.declared.Tables.{Tables}
 use Rattle.tables.specs.Readers.{current_of}
-use Rattle.rules.specs.Calls.{Accepted, Call, Wait, Signal, MakeSemaphore, Delete, Reset, MakeProcess, Resume, Suspend, Kill, Yield, Count, deed}
+use Rattle.rules.specs.declared.Call.{Call}
+use Rattle.rules.specs.declared.Call.TheVariants.{Wait, Signal, MakeSemaphore, Delete, Reset, MakeProcess, Resume, Suspend, Kill, Yield, Count}
+use Rattle.rules.specs.Calls.{Accepted, deed}
 use Rattle.rules.proofs.Refusals.{null-waits-none}
 use Rattle.promises.specs.Record.{Event, Sets, Ends, Signals, Waits, Kills, Nothing, NoNullWait, Request, accepted, after, entry_of, event, names, record_of}
 use Rattle.promises.proofs.Events.{event-cases}

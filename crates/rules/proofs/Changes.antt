@@ -23,7 +23,9 @@ use Rattle.tables.specs.Readers.{free_slot, free_semaphore, state_of, priority_o
 use Rattle.tables.specs.Sound.{Counted, Sound}
 use Rattle.tables.proofs.States.{is-suspended, awaits-some, runs-no-waiter}
 use Rattle.tables.proofs.Sentences.{waiter-used}
-use Rattle.rules.specs.Calls.{Accepted, Call, Wait, Signal, MakeSemaphore, Delete, Reset, MakeProcess, Resume, Suspend, Kill, Yield, Count, below0, outside, largest, free_semaphores, stop, uncounted, deed, finish}
+use Rattle.rules.specs.declared.Call.{Call}
+use Rattle.rules.specs.declared.Call.TheVariants.{Wait, Signal, MakeSemaphore, Delete, Reset, MakeProcess, Resume, Suspend, Kill, Yield, Count}
+use Rattle.rules.specs.Calls.{Accepted, below0, outside, largest, free_semaphores, stop, uncounted, deed, finish}
 use Rattle.rules.proofs.Resched.{Settled, settled-still}
 use Rattle.rules.proofs.Effects.{Effect}
 use Rattle.rules.proofs.WaitSignal.{wait-effect, signal-effect}

@@ -27,7 +27,9 @@ use Rattle.tables.proofs.SlotLaws.{priority-top}
 use Rattle.tables.proofs.Sentences.{few-wait, sentences}
 use Rattle.tables.proofs.BootLaws.{entry-boot}
 use Rattle.rules.specs.Answers.{value_of}
-use Rattle.rules.specs.Calls.{Accepted, Call, Wait, Signal, MakeSemaphore, Delete, Reset, MakeProcess, Resume, Suspend, Kill, Yield, Count, below0, largest, free_semaphores, free_slots, deed, finish, step}
+use Rattle.rules.specs.declared.Call.{Call}
+use Rattle.rules.specs.declared.Call.TheVariants.{Wait, Signal, MakeSemaphore, Delete, Reset, MakeProcess, Resume, Suspend, Kill, Yield, Count}
+use Rattle.rules.specs.Calls.{Accepted, below0, largest, free_semaphores, free_slots, deed, finish, step}
 use Rattle.rules.specs.Enter.{Form, forms, call_of, numbered}
 use Rattle.rules.proofs.Resched.{Settled}
 use Rattle.rules.proofs.Effects.{Effect, settled-seen}

@@ -11,7 +11,8 @@ use Rattle.tables.specs.Readers.{state_of, count_of, queue, current_of}
 use Rattle.tables.specs.Sound.{Counted, Sound}
 use Rattle.tables.proofs.States.{awaits-some}
 use Rattle.tables.proofs.Sentences.{sentences}
-use Rattle.rules.specs.Calls.{Call, deed, finish, step}
+use Rattle.rules.specs.declared.Call.{Call}
+use Rattle.rules.specs.Calls.{deed, finish, step}
 use Rattle.rules.specs.Enter.{call_of, numbered}
 use Rattle.rules.proofs.Effects.{Effect, effect-sound, settled-sound}
 use Rattle.rules.proofs.WaitSignal.{counted-wait, counted-signal}

@@ -19,7 +19,9 @@ use Rattle.tables.specs.Readers.{current_of, state_of}
 use Rattle.rules.specs.declared.Answer.TheVariants.{Done, Refused}
 use Rattle.rules.specs.declared.Outcome.{Outcome}
 use Rattle.rules.specs.Answers.{Check, ◌when◌, NoneHolds, Ranged, elsewhere, last_refusal, may_refuse, number_of, refused, unless}
-use Rattle.rules.specs.Calls.{Accepted, Call, Count, Deed, Delete, Kill, MakeProcess, MakeSemaphore, Reset, Resume, Signal, Suspend, Wait, Yield, checks, deed, finish, state_refusal, step}
+use Rattle.rules.specs.declared.Call.{Call}
+use Rattle.rules.specs.declared.Call.TheVariants.{Count, Delete, Kill, MakeProcess, MakeSemaphore, Reset, Resume, Signal, Suspend, Wait, Yield}
+use Rattle.rules.specs.Calls.{Accepted, Deed, checks, deed, finish, state_refusal, step}
 use Rattle.rules.specs.Enter.{Form, forms, line_of, form_of, call_of, spare, called, numbered}
 use Rattle.rules.specs.declared.Answer.{Answer}
 

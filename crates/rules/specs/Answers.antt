@@ -4,6 +4,8 @@ use Rattle.lists.specs.Lists.{Each}
 use Rattle.tables.specs.declared.Tables.{Tables}
 use Rattle.rules.specs.declared.Answer.{Answer}
 use Rattle.rules.specs.declared.Answer.TheVariants.{Done, Refused}
+use Rattle.rules.specs.declared.Refusal.{Refusal}
+use Rattle.rules.specs.declared.Refusal.TheVariants.{NoSuchSemaphore, SemaphoreFree, CountBelow0, AllUsed, CountLargest, NoSuchProcess, SlotFree, AllLive, FoundSuspended, Process0, NoSuchPriority, WrongLine, NoSuchCall, SpareArgument, NotSound, FewRows, FoundCurrent, FoundReady, FoundWaiting}
 use Rattle.rules.specs.declared.Outcome.{Outcome}
 
 -- the refusal number, 0 for none
@@ -15,6 +17,28 @@ number_of (Refused n) = n
 abbrev pub value_of : Answer → ℤ
 value_of (Done v) = v
 value_of (Refused n) = negsuc 0
+
+-- the paper's number of each refusal
+abbrev pub refusal_number : Refusal → ℕ
+refusal_number NoSuchSemaphore = 1
+refusal_number SemaphoreFree = 2
+refusal_number CountBelow0 = 3
+refusal_number AllUsed = 4
+refusal_number CountLargest = 5
+refusal_number NoSuchProcess = 6
+refusal_number SlotFree = 7
+refusal_number AllLive = 8
+refusal_number FoundSuspended = 9
+refusal_number Process0 = 10
+refusal_number NoSuchPriority = 11
+refusal_number WrongLine = 12
+refusal_number NoSuchCall = 13
+refusal_number SpareArgument = 14
+refusal_number NotSound = 15
+refusal_number FewRows = 16
+refusal_number FoundCurrent = 17
+refusal_number FoundReady = 18
+refusal_number FoundWaiting = 19
 
 -- The numbers that a call on sound tables may be refused with
 

@@ -14,16 +14,11 @@ use Rattle.tables.specs.Limits.{process_limit, semaphore_limit, priority_limit}
 use Rattle.tables.specs.States.{is_free, is_current, is_ready, is_suspended, awaits}
 use Rattle.tables.specs.Readers.{free_slot, free_semaphore, process, state_of, priority_of, count_of, is_used, queue, current_of}
 use Rattle.tables.specs.Setters.{in_state, new_slot, with_process, with_semaphore, with_count, with_next_semaphore, with_next_process}
+use Rattle.rules.specs.declared.Call.{Call}
+use Rattle.rules.specs.declared.Call.TheVariants.{Wait, Signal, MakeSemaphore, Delete, Reset, MakeProcess, Resume, Suspend, Kill, Yield, Count}
 use Rattle.rules.specs.declared.Outcome.{Outcome}
 use Rattle.rules.specs.Schedule.{make_ready, make_all_ready, make_wait, reschedule}
 use Rattle.rules.specs.Answers.{Check, ◌when◌, NoneHolds, unless, done, refused}
-
-pub data Call : Type 0 where
-  Wait Signal MakeSemaphore Delete : ℤ → Call
-  Reset : ℤ → ℤ → Call
-  MakeProcess Resume Suspend Kill : ℤ → Call
-  Yield : Call
-  Count : ℤ → Call
 
 -- Tests of an argument
 

@@ -1,13 +1,17 @@
 -- A call by its number: 15, 13 and 14 in that order, then the call's own checks.
-use Rattle.std.specs.Prelude.{if◌then◌else◌, ℕ, zero, suc, ℤ, pos, negsuc, eqb, Bool, false, not, ◌||◌, List, [], ◌∷◌}
+use Rattle.std.specs.Prelude.{if◌then◌else◌, ℕ, zero, suc, ℤ, pos, negsuc, eqb, Bool, false, not, ◌||◌, List, [], ◌∷◌, ◌≡◌, Result, Ok, Err}
 use Rattle.std.proofs.Math.Option.{Option, none, some}
 use Rattle.tables.specs.declared.Tables.{Tables}
 use Rattle.tables.specs.Readers.{current_of, nobody}
 use Rattle.tables.specs.Test.{sound_now}
+use Rattle.rules.specs.declared.Refusal.{Refusal}
+use Rattle.rules.specs.declared.Refusal.TheVariants.{NoSuchCall, SpareArgument}
 use Rattle.rules.specs.declared.Outcome.{Outcome}
 use Rattle.rules.specs.declared.Reply.{Reply}
 use Rattle.rules.specs.Answers.{◌when◌, unless, refused}
-use Rattle.rules.specs.Calls.{Call, Wait, Signal, MakeSemaphore, Delete, Reset, MakeProcess, Resume, Suspend, Kill, Yield, Count, step}
+use Rattle.rules.specs.declared.Call.{Call}
+use Rattle.rules.specs.declared.Call.TheVariants.{Wait, Signal, MakeSemaphore, Delete, Reset, MakeProcess, Resume, Suspend, Kill, Yield, Count}
+use Rattle.rules.specs.Calls.{step}
 
 -- a call and the arguments that it uses
 pub data Form : Type 0 where
@@ -64,6 +68,14 @@ called t (some f) a b = unless (λ n. refused n t) ((14 when spare f a b) ∷ []
 -- a call on sound tables
 unfoldable pub numbered : Tables → ℕ → ℤ → ℤ → Outcome
 numbered t n a b = called t (form_of n) a b
+
+-- which call a number and two arguments are, or why they are none, whatever the tables
+abbrev pub read : Option Form → ℤ → ℤ → Result Call Refusal
+read none a b = Err NoSuchCall
+read (some f) a b = if spare f a b then Err SpareArgument else Ok (call_of f a b)
+
+abbrev pub Reads : ℕ → ℤ → ℤ → Result Call Refusal → Type 0
+Reads n a b r = r ≡ read (form_of n) a b
 
 -- a call on any tables: those that aren't sound come back as they came
 unfoldable pub enter : Tables → ℕ → ℤ → ℤ → Reply

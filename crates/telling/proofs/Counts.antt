@@ -17,7 +17,9 @@ use Rattle.tables.specs.Limits.{semaphore_limit}
 use Rattle.tables.specs.Readers.{count_of, is_used, state_of}
 use Rattle.tables.specs.Sound.{Sound}
 use Rattle.tables.specs.States.{awaits}
-use Rattle.rules.specs.Calls.{Accepted, Call, Wait, Signal, MakeSemaphore, Delete, Reset, MakeProcess, Resume, Suspend, Kill, Yield, Count, below0, deed, finish, free_semaphores, outside, step}
+use Rattle.rules.specs.declared.Call.{Call}
+use Rattle.rules.specs.declared.Call.TheVariants.{Wait, Signal, MakeSemaphore, Delete, Reset, MakeProcess, Resume, Suspend, Kill, Yield, Count}
+use Rattle.rules.specs.Calls.{Accepted, below0, deed, finish, free_semaphores, outside, step}
 use Rattle.rules.specs.Seen.{Seen}
 use Rattle.rules.proofs.Changes.{Loses, call-changes, passed-number}
 use Rattle.rules.proofs.Effects.{Effect, settled-seen}

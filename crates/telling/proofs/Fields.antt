@@ -21,7 +21,9 @@ use Rattle.tables.specs.Readers.{free_slot, process, state_of, priority_of, coun
 use Rattle.tables.specs.Setters.{with_order, with_process, with_semaphore, with_state, with_count}
 use Rattle.tables.proofs.LineLaws.{at_other, priority-kept}
 use Rattle.rules.specs.Schedule.{joining, make_ready, make_all_ready, start_first, switch, reschedule}
-use Rattle.rules.specs.Calls.{Call, Wait, Signal, MakeSemaphore, Delete, Reset, MakeProcess, Resume, Suspend, Kill, Yield, Count, below0, outside, free_slots, Deed, uncounted, Accepted, deed, finish, step}
+use Rattle.rules.specs.declared.Call.{Call}
+use Rattle.rules.specs.declared.Call.TheVariants.{Wait, Signal, MakeSemaphore, Delete, Reset, MakeProcess, Resume, Suspend, Kill, Yield, Count}
+use Rattle.rules.specs.Calls.{below0, outside, free_slots, Deed, uncounted, Accepted, deed, finish, step}
 use Rattle.rules.proofs.Refusals.{step-cases, branch}
 use Rattle.telling.specs.Telling.{MakesNothing, Spares}
 

@@ -30,7 +30,9 @@ use Rattle.tables.proofs.TestLaws.{checked-sound, sound-checked}
 use Rattle.rules.specs.declared.Answer.TheVariants.{Refused}
 use Rattle.rules.specs.declared.Outcome.{Outcome}
 use Rattle.rules.specs.Answers.{Check, ◌when◌, Ranged, may_refuse, refused, unless}
-use Rattle.rules.specs.Calls.{Call, Wait, Signal, MakeSemaphore, Delete, Reset, MakeProcess, Resume, Suspend, Kill, Yield, Count, below0, outside, largest, no_semaphore, not_used, no_count, no_process, state_refusal, not_live, wrong_state, null_process, free_semaphores, free_slots, checks, deed, finish, step}
+use Rattle.rules.specs.declared.Call.{Call}
+use Rattle.rules.specs.declared.Call.TheVariants.{Wait, Signal, MakeSemaphore, Delete, Reset, MakeProcess, Resume, Suspend, Kill, Yield, Count}
+use Rattle.rules.specs.Calls.{below0, outside, largest, no_semaphore, not_used, no_count, no_process, state_refusal, not_live, wrong_state, null_process, free_semaphores, free_slots, checks, deed, finish, step}
 use Rattle.rules.specs.Enter.{Form, forms, form_of, is_zero, spare, call_of, called, numbered, enter}
 use Rattle.telling.specs.Reasons.{Reason, Exactly, FirstOf, no_such_semaphore, semaphore_free, count_below0, all_used, count_largest, no_such_process, slot_free, all_live, found_suspended, process0, no_such_priority, no_such_call, arguments_of, spare_argument, not_sound, found_current, found_ready, found_waiting, own_reasons, call_reasons, numbered_reasons, reasons}
 use Rattle.rules.proofs.Numbers.{number-known, number_past}

@@ -11,7 +11,9 @@ use Rattle.tables.specs.declared.State.TheVariants.{Free, Current, Ready, Suspen
 use Rattle.tables.specs.declared.Tables.{Tables}
 use Rattle.tables.specs.Readers.{state_of}
 use Rattle.rules.specs.declared.Answer.TheVariants.{Refused}
-use Rattle.rules.specs.Calls.{Call, Resume, Suspend, checks, state_refusal}
+use Rattle.rules.specs.declared.Call.{Call}
+use Rattle.rules.specs.declared.Call.TheVariants.{Resume, Suspend}
+use Rattle.rules.specs.Calls.{checks, state_refusal}
 use Rattle.rules.specs.Enter.{Form, first, call_of, form_of, numbered}
 use Rattle.rules.proofs.Refusals.{numbered-number}
 use Rattle.telling.specs.Reasons.{says}

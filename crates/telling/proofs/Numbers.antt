@@ -9,7 +9,9 @@ use Rattle.tables.specs.declared.Tables.{Tables}
 use Rattle.rules.specs.declared.Answer.TheVariants.{Refused}
 use Rattle.rules.specs.declared.Outcome.{Outcome}
 use Rattle.rules.specs.Answers.{value_of, refused, Check, ◌when◌, NoneHolds, unless}
-use Rattle.rules.specs.Calls.{Call, Wait, Signal, MakeSemaphore, Delete, Reset, MakeProcess, Resume, Suspend, Kill, Yield, Count, checks, step, deed, finish}
+use Rattle.rules.specs.declared.Call.{Call}
+use Rattle.rules.specs.declared.Call.TheVariants.{Wait, Signal, MakeSemaphore, Delete, Reset, MakeProcess, Resume, Suspend, Kill, Yield, Count}
+use Rattle.rules.specs.Calls.{checks, step, deed, finish}
 use Rattle.rules.specs.Enter.{numbered}
 use Rattle.rules.proofs.Refusals.{step-refused, finish-done}
 use Rattle.telling.specs.Telling.{FirstHolds}

@@ -23,7 +23,9 @@ use Rattle.tables.proofs.States.{is_free_lem, is-suspended}
 use Rattle.tables.proofs.LineLaws.{at_same, at_other, line_first, in-line-live}
 use Rattle.tables.proofs.Sentences.{current-is}
 use Rattle.rules.specs.Schedule.{joining, make_ready, make_all_ready, make_wait, start_first, switch, reschedule}
-use Rattle.rules.specs.Calls.{Call, Wait, Signal, MakeSemaphore, Delete, Reset, MakeProcess, Resume, Suspend, Kill, Yield, Count, below0, free_slots, Deed, Accepted, deed, stop, finish, step}
+use Rattle.rules.specs.declared.Call.{Call}
+use Rattle.rules.specs.declared.Call.TheVariants.{Wait, Signal, MakeSemaphore, Delete, Reset, MakeProcess, Resume, Suspend, Kill, Yield, Count}
+use Rattle.rules.specs.Calls.{below0, free_slots, Deed, Accepted, deed, stop, finish, step}
 use Rattle.rules.proofs.WaitSignal.{first-waiter}
 use Rattle.telling.specs.Telling.{PassesBy}
 use Rattle.rules.proofs.Refusals.{step-cases, branch}

@@ -7,9 +7,9 @@ use mathlib.Core.Path.{◌≡◌, refl, sym, ap, ◌∙◌}
 use lib.IntN.{ℤ, pos, suc_ℤ}
 use lib.ListN.{length}
 use Rattle.lists.specs.Lists.{is_empty, first}
-use Rattle.tables.specs.declared.State.{State}
 use Rattle.tables.specs.declared.State.TheVariants.{Free, Current}
 use Rattle.tables.specs.declared.Process.{Process}
+use Rattle.tables.specs.declared.Semaphore.{Semaphore}
 use Rattle.tables.specs.declared.Tables.{Tables}
 use Rattle.tables.specs.Limits.{process_limit}
 use Rattle.tables.specs.States.{is_current, is_ready, awaits}
@@ -21,14 +21,16 @@ use Rattle.tables.proofs.LineLaws.{line-absent, live-slot}
 use Rattle.tables.proofs.Sentences.{current-only, current-unique}
 use Rattle.rules.specs.declared.Answer.TheVariants.{Done}
 use Rattle.rules.specs.declared.Outcome.{Outcome}
-use Rattle.rules.specs.Calls.{Call, MakeSemaphore, MakeProcess, Suspend, Kill, outside, free_semaphores, free_slots, stop, uncounted, Accepted, deed, finish, step}
+use Rattle.rules.specs.declared.Call.{Call}
+use Rattle.rules.specs.declared.Call.TheVariants.{MakeSemaphore, MakeProcess, Suspend, Kill}
+use Rattle.rules.specs.Calls.{outside, free_semaphores, free_slots, stop, uncounted, Accepted, deed, finish, step}
 use Rattle.telling.specs.Telling.{Seats, seats, Changes, Keeps}
 use Rattle.rules.proofs.Resched.{Settled, Prepared}
 use Rattle.rules.proofs.Effects.{Effect, settled-seen}
 use Rattle.rules.proofs.Slots.{suspend-prepared, free-prepared}
 use Rattle.rules.proofs.Found.{slot-found}
 use Rattle.rules.proofs.Refusals.{step-done}
-use Rattle.rules.proofs.Changes.{Loses, below-limit, not_null, kill-loses}
+use Rattle.rules.proofs.Changes.{untouched, rewritten, change_of, Loses, below-limit, not_null, call-changes, kill-loses}
 use Rattle.telling.proofs.Seats.{seats-set}
 use Rattle.telling.proofs.Others.{slot-stopped}
 
@@ -41,6 +43,15 @@ module _ {t : Tables} (S : Sound t) where
   -- one that changes none
   pub tell-keeps : {o : Outcome} {v : ℤ} {y : Seats} (x : Call) → step t x ≡ o → o.answer ≡ Done v → Settled t o.tables → seats o.tables ≡ y → Keeps t (step t x) v y
   tell-keeps x e d g h = rw e (record { value = d; everywhere = settled-seen g; seated = h })
+
+  -- an accepted call, by its change: it leaves all as they are seen, or writes one semaphore anew
+
+  pub did-keep : (x : Call) (k : Accepted t x) {y : Seats} → change_of t x ≡ untouched → seats (finish (deed t x)).tables ≡ y → Keeps t (step t x) (deed t x).value y
+  did-keep x k e = tell-keeps x (step-done t x k) refl (rw e at (call-changes S x k).1)
+
+  pub did-rewrite : (x : Call) (k : Accepted t x) (s : ℕ) (z : Semaphore) {y : Seats} → change_of t x ≡ rewritten s z → seats (finish (deed t x)).tables ≡ y
+      → Changes t (step t x) (deed t x).value s (record { used = z.used; count = z.count; waiters = [] }) y
+  did-rewrite x k s z e = tell-changes x (step-done t x k) refl (rw e at (call-changes S x k).1)
 
   pub only-current : (p : ℕ) → state_of t p ≡ Current → currents t ≡ p ∷ []
   only-current p h = current-only S.running ∙ ap (λ (c : ℕ). c ∷ []) (current-unique S p (ap is_current h))
@@ -71,12 +82,16 @@ module _ {t : Tables} (S : Sound t) where
   pub killing : (p : ℕ) → Accepted t (Kill (pos p)) → Prepared (stop (pos 1) t p free_slot)
   killing p k = free-prepared S p (below-limit process_limit (pos p) k.0) (not_null p k.1.0) (pos 1)
 
-  -- a kill by the state that it finds
-  pub kill-step : (p : ℕ) → Accepted t (Kill (pos p)) → (st : State) → state_of t p ≡ st → step t (Kill (pos p)) ≡ finish (stop (pos 1) (uncounted t (awaits st)) p free_slot)
-  kill-step p k st h = step-done t (Kill (pos p)) k ∙ ap (λ (z : State). finish (stop (pos 1) (uncounted t (awaits z)) p free_slot)) h
+  -- a kill by the semaphore, if any, that the process waits on
 
-  pub kill-did : (p : ℕ) → Accepted t (Kill (pos p)) → (st : State) → state_of t p ≡ st → Loses t p (awaits st) (finish (stop (pos 1) (uncounted t (awaits st)) p free_slot)).tables
-  kill-did p k st h = kill-loses S p (awaits st) (ap awaits h) (below-limit process_limit (pos p) k.0) (not_null p k.1.0)
+  pub kill-step : (p : ℕ) → Accepted t (Kill (pos p)) → (w : Option ℕ) → awaits (state_of t p) ≡ w → step t (Kill (pos p)) ≡ finish (stop (pos 1) (uncounted t w) p free_slot)
+  kill-step p k w e = step-done t (Kill (pos p)) k ∙ ap (λ (z : Option ℕ). finish (stop (pos 1) (uncounted t z) p free_slot)) e
+
+  pub kill-did : (p : ℕ) → Accepted t (Kill (pos p)) → (w : Option ℕ) → awaits (state_of t p) ≡ w → Loses t p w (finish (stop (pos 1) (uncounted t w) p free_slot)).tables
+  kill-did p k w e = kill-loses S p w e (below-limit process_limit (pos p) k.0) (not_null p k.1.0)
+
+  pub kill-keeps : (p : ℕ) → Accepted t (Kill (pos p)) → awaits (state_of t p) ≡ none → {y : Seats} → seats (finish (stop (pos 1) t p free_slot)).tables ≡ y → Keeps t (step t (Kill (pos p))) (pos 1) y
+  kill-keeps p k e = tell-keeps (Kill (pos p)) (kill-step p k none e) refl (kill-did p k none e)
 
   pub kill-frees : (p : ℕ) → outside process_limit (pos p) ≡ false → (w : Option ℕ) → process (finish (stop (pos 1) (uncounted t w) p free_slot)).tables p ≡ free_slot
   kill-frees p h none = slot-stopped (pos 1) t p free_slot (slot_of p h) refl refl

@@ -5,6 +5,7 @@ use Prim.Native.Nat.{ℕ, suc}
 use mathlib.Core.Bool.{true, false, not, ◌||◌}
 use mathlib.Core.List.{List, [], ◌∷◌, ◌++◌}
 use mathlib.Core.Logic.{◌≢◌}
+use mathlib.Core.Option.{some}
 use mathlib.Core.Path.{◌≡◌, refl, ap, ◌∙◌}
 use lib.Dec.{eqb}
 use lib.IntN.{ℤ, pos, suc_ℤ, pred_ℤ}
@@ -25,7 +26,9 @@ use Rattle.tables.proofs.LineLaws.{at_same, line-absent, live-slot}
 use Rattle.rules.specs.declared.Answer.TheVariants.{Done}
 use Rattle.rules.specs.declared.Outcome.{Outcome}
 use Rattle.rules.specs.Answers.{done}
-use Rattle.rules.specs.Calls.{Call, Wait, Signal, MakeSemaphore, Delete, Reset, MakeProcess, Resume, Suspend, Kill, Yield, Count, below0, free_semaphores, free_slots, Accepted, step}
+use Rattle.rules.specs.declared.Call.{Call}
+use Rattle.rules.specs.declared.Call.TheVariants.{Wait, Signal, MakeSemaphore, Delete, Reset, MakeProcess, Resume, Suspend, Kill, Yield, Count}
+use Rattle.rules.specs.Calls.{below0, free_semaphores, free_slots, Accepted, step}
 use Rattle.rules.specs.Seen.{in_use, not_in_use}
 use Rattle.telling.specs.Telling.{MakesNothing, CountGoesOn, Spares, PassesBy, seats, seated, behind, head_runs, reseat, released, Changes, Keeps}
 use Rattle.rules.proofs.Slots.{kill-prepared}
@@ -36,7 +39,7 @@ use Rattle.telling.proofs.Seats.{seats-entry, seats-cursors, seats-blocked, seat
 use Rattle.telling.proofs.Fields.{cursors-kept, priority-stays}
 use Rattle.telling.proofs.Counts.{step-stands}
 use Rattle.telling.proofs.Others.{slot-stopped, slot-stays}
-use Rattle.telling.proofs.Telling.{tell-changes, tell-keeps, only-current, made-semaphore, made-process, slot-seats, slot_of, suspending, killing, kill-step, kill-did, kill-frees}
+use Rattle.telling.proofs.Telling.{tell-changes, did-keep, did-rewrite, only-current, made-semaphore, made-process, slot-seats, slot_of, suspending, killing, kill-step, kill-did, kill-keeps, kill-frees}
 
 -- Cursors
 
@@ -98,7 +101,7 @@ module _ {t : Tables} (S : Sound t) where
 
     -- it is in use then, with count a and no queue; no other semaphore and no seat changes
     pub make-semaphore-makes : Changes t (step t (MakeSemaphore a)) (pos s) s (in_use a []) (seats t)
-    make-semaphore-makes = rw (← (made-semaphore S a s k e)) (tell-changes S (MakeSemaphore a) (step-done t (MakeSemaphore a) k) refl (call-changes S (MakeSemaphore a) k).1 (seats-cursors _ _ _ ∙ seats-entry t (first (free_semaphores t)) _))
+    make-semaphore-makes = rw (← (made-semaphore S a s k e)) (did-rewrite S (MakeSemaphore a) k _ _ refl (seats-cursors _ _ _ ∙ seats-entry t (first (free_semaphores t)) _))
 
     -- the cursor is one past it, and the limit becomes 0
     pub make-semaphore-cursor : (step t (MakeSemaphore a)).tables.next_semaphore ≡ (if eqb (suc s) semaphore_limit then 0 else suc s)
@@ -106,11 +109,11 @@ module _ {t : Tables} (S : Sound t) where
 
   -- 04 delete s: the entry is free, count 0; all waiters become ready in queue order; then one reschedule if there was any
   pub delete-frees : (s : ℕ) → Accepted t (Delete (pos s)) → Changes t (step t (Delete (pos s))) (pos 1) s not_in_use (released t s)
-  delete-frees s k = tell-changes S (Delete (pos s)) (step-done t (Delete (pos s)) k) refl (call-changes S (Delete (pos s)) k).1 (seats-released S s free_semaphore)
+  delete-frees s k = did-rewrite S (Delete (pos s)) k s free_semaphore refl (seats-released S s free_semaphore)
 
   -- 05 reset s to b: all waiters become ready in queue order, count b; then one reschedule if there was any
   pub reset-sets : (s : ℕ) (b : ℤ) → Accepted t (Reset (pos s) b) → Changes t (step t (Reset (pos s) b)) (pos 1) s (in_use b []) (released t s)
-  reset-sets s b k = tell-changes S (Reset (pos s) b) (step-done t (Reset (pos s) b) k) refl (call-changes S (Reset (pos s) b) k).1 (seats-released S s (record { used = true; count = b }))
+  reset-sets s b k = did-rewrite S (Reset (pos s) b) k s _ refl (seats-released S s (record { used = true; count = b }))
 
   -- 06 make a process, priority n; p is the number answered
 
@@ -122,7 +125,7 @@ module _ {t : Tables} (S : Sound t) where
     -- no semaphore and no seat changes
     pub make-process-keeps : Keeps t (step t (MakeProcess (pos n))) (pos p) (seats t)
     make-process-keeps =
-        rw (← (made-process S (pos n) p k e)) (tell-keeps S (MakeProcess (pos n)) (step-done t (MakeProcess (pos n)) k) refl (call-changes S (MakeProcess (pos n)) k).1 (seats-cursors _ _ _ ∙ slot-seats S _ refl refl k.1.0))
+        rw (← (made-process S (pos n) p k e)) (did-keep S (MakeProcess (pos n)) k refl (seats-cursors _ _ _ ∙ slot-seats S _ refl refl k.1.0))
 
     -- it is suspended then, with priority n
     pub make-process-slot : process (step t (MakeProcess (pos n))).tables p ≡ new_slot n
@@ -135,19 +138,18 @@ module _ {t : Tables} (S : Sound t) where
   -- 07 resume p: a suspended process becomes ready, then reschedule; its priority
   pub resume-readies : (p : ℕ) → Accepted t (Resume (pos p)) → Keeps t (step t (Resume (pos p))) (pos (priority_of t p)) (reseat (priority_of t) (behind (priority_of t) p (ready_list t)) (currents t))
   resume-readies p k =
-      tell-keeps S (Resume (pos p)) (step-done t (Resume (pos p)) k) refl (call-changes S (Resume (pos p)) k).1
+      did-keep S (Resume (pos p)) k refl
       (seats-resumed S p (is-suspended (state_of t p) (not-false (is_suspended (state_of t p)) k.1.1.0)) (pos (priority_of t p)))
 
   -- 08 suspend p; its priority
 
   -- a ready process leaves the list
   pub suspend-ready : (p : ℕ) → Accepted t (Suspend (pos p)) → state_of t p ≡ Ready → Keeps t (step t (Suspend (pos p))) (pos (priority_of t p)) (seated (without p (ready_list t)) (currents t))
-  suspend-ready p k h = tell-keeps S (Suspend (pos p)) (step-done t (Suspend (pos p)) k) refl (call-changes S (Suspend (pos p)) k).1 (seats-stopped-other _ t p _ (suspending S p k) (slot_of S p k.0) refl refl (ap is_current h))
+  suspend-ready p k h = did-keep S (Suspend (pos p)) k refl (seats-stopped-other _ t p _ (suspending S p k) (slot_of S p k.0) refl refl (ap is_current h))
 
   -- the current one stops, and the first ready process runs
   pub suspend-current : (p : ℕ) → Accepted t (Suspend (pos p)) → state_of t p ≡ Current → Keeps t (step t (Suspend (pos p))) (pos (priority_of t p)) (head_runs (ready_list t))
-  suspend-current p k h =
-      tell-keeps S (Suspend (pos p)) (step-done t (Suspend (pos p)) k) refl (call-changes S (Suspend (pos p)) k).1 (seats-stopped-current _ t p _ (suspending S p k) (slot_of S p k.0) refl refl h (only-current S p h))
+  suspend-current p k h = did-keep S (Suspend (pos p)) k refl (seats-stopped-current _ t p _ (suspending S p k) (slot_of S p k.0) refl refl h (only-current S p h))
 
   -- it is suspended then, and keeps its priority
   pub suspend-slot : (p : ℕ) → Accepted t (Suspend (pos p)) → process (step t (Suspend (pos p))).tables p ≡ in_state Suspended (process t p)
@@ -157,23 +159,23 @@ module _ {t : Tables} (S : Sound t) where
 
   -- a ready one leaves the list
   pub kill-ready : (p : ℕ) → Accepted t (Kill (pos p)) → state_of t p ≡ Ready → Keeps t (step t (Kill (pos p))) (pos 1) (seated (without p (ready_list t)) (currents t))
-  kill-ready p k h = tell-keeps S (Kill (pos p)) (kill-step S p k Ready h) refl (kill-did S p k Ready h) (seats-stopped-other (pos 1) t p free_slot (killing S p k) (slot_of S p k.0) refl refl (ap is_current h))
+  kill-ready p k h = kill-keeps S p k (ap awaits h) (seats-stopped-other (pos 1) t p free_slot (killing S p k) (slot_of S p k.0) refl refl (ap is_current h))
 
   -- a suspended one leaves no list
   pub kill-suspended : (p : ℕ) → Accepted t (Kill (pos p)) → state_of t p ≡ Suspended → Keeps t (step t (Kill (pos p))) (pos 1) (seats t)
   kill-suspended p k h =
-      tell-keeps S (Kill (pos p)) (kill-step S p k Suspended h) refl (kill-did S p k Suspended h)
+      kill-keeps S p k (ap awaits h)
       (seats-stopped-other (pos 1) t p free_slot (killing S p k) (slot_of S p k.0) refl refl (ap is_current h) ∙ rw (line-absent t p is_ready (ap is_ready h)))
 
   -- the current one stops, and the first ready process runs
   pub kill-current : (p : ℕ) → Accepted t (Kill (pos p)) → state_of t p ≡ Current → Keeps t (step t (Kill (pos p))) (pos 1) (head_runs (ready_list t))
-  kill-current p k h = tell-keeps S (Kill (pos p)) (kill-step S p k Current h) refl (kill-did S p k Current h) (seats-stopped-current (pos 1) t p free_slot (killing S p k) (slot_of S p k.0) refl refl h (only-current S p h))
+  kill-current p k h = kill-keeps S p k (ap awaits h) (seats-stopped-current (pos 1) t p free_slot (killing S p k) (slot_of S p k.0) refl refl h (only-current S p h))
 
   -- a waiting one leaves its queue, no other queue changes, and that count goes up by 1; nobody is released
   pub kill-waiting : (p : ℕ) → Accepted t (Kill (pos p)) → (s : ℕ) → state_of t p ≡ Waiting s → Changes t (step t (Kill (pos p))) (pos 1) s (in_use (suc_ℤ (count_of t s)) (without p (queue t s))) (seats t)
   unfolding line
   kill-waiting p k s h =
-      tell-changes S (Kill (pos p)) (kill-step S p k (Waiting s) h) refl (kill-did S p k (Waiting s) h)
+      tell-changes S (Kill (pos p)) (kill-step S p k (some s) (ap awaits h)) refl (kill-did S p k (some s) (ap awaits h))
       (seats-stopped-other (pos 1) (with_count t s (suc_ℤ (count_of t s))) p free_slot (kill-prepared S p s (not_null p k.1.0) h (pos 1) (suc_ℤ (count_of t s))) (slot_of S p k.0) refl refl (ap is_current h)
       ∙ ap (λ (r : List ℕ). seated r (currents t)) (line-absent t p is_ready (ap is_ready h)))
 
@@ -183,7 +185,7 @@ module _ {t : Tables} (S : Sound t) where
 
   -- 0a yield: reschedule
   pub yield-reschedules : Keeps t (step t Yield) (pos 1) (reseat (priority_of t) (ready_list t) (currents t))
-  yield-reschedules = tell-keeps S Yield (step-done t Yield tt) refl (call-changes S Yield tt).1 (seats-yielded S (pos 1))
+  yield-reschedules = did-keep S Yield tt refl (seats-yielded S (pos 1))
 
   -- 0b count of s: nothing changes; the count
   pub count-tells : (s : ℕ) → Accepted t (Count (pos s)) → step t (Count (pos s)) ≡ done (count_of t s) t

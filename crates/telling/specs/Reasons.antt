@@ -9,7 +9,8 @@ use Rattle.tables.specs.States.{is_free, is_current, is_ready, is_suspended, is_
 use Rattle.tables.specs.Readers.{state_of, is_used, count_of, current_of}
 use Rattle.tables.specs.Sound.{Sound}
 use Rattle.rules.specs.Answers.{Check}
-use Rattle.rules.specs.Calls.{Call, Wait, Signal, MakeSemaphore, Delete, Reset, MakeProcess, Resume, Suspend, Kill, Yield, Count}
+use Rattle.rules.specs.declared.Call.{Call}
+use Rattle.rules.specs.declared.Call.TheVariants.{Wait, Signal, MakeSemaphore, Delete, Reset, MakeProcess, Resume, Suspend, Kill, Yield, Count}
 use Rattle.rules.specs.Enter.{Form, form_of, call_of}
 
 -- a refusal number, and when it is given

@@ -7,7 +7,9 @@ use Rattle.rules.specs.declared.Answer.TheVariants.{Done}
 use Rattle.rules.specs.declared.Outcome.{Outcome}
 use Rattle.rules.specs.Seen.{Seen, seen}
 use Rattle.rules.specs.Answers.{Check, ◌when◌, NoneHolds}
-use Rattle.rules.specs.Calls.{Call, MakeSemaphore, Delete, Reset, MakeProcess, Resume, Suspend, Kill, free_slots}
+use Rattle.rules.specs.declared.Call.{Call}
+use Rattle.rules.specs.declared.Call.TheVariants.{MakeSemaphore, Delete, Reset, MakeProcess, Resume, Suspend, Kill}
+use Rattle.rules.specs.Calls.{free_slots}
 
 -- n is the number of the first of these checks that holds
 pub record FirstHolds (cs : List Check) (n : ℕ) : Type 0 where
