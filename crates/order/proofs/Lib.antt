@@ -1,4 +1,3 @@
 pub mod Found
 pub mod SearchLaws
 pub mod Moves
-pub mod Spots

@@ -1,24 +1,40 @@
 -- The live processes as the code counts them and looks for them, one after the other. Assumes nothing.
-use Prim.Native.Nat.{◌+◌, ◌<◌, ◌≤◌, suc, zero, ℕ}
+use Prim.Native.Nat.{◌+◌, ◌-◌, ◌<◌, ◌≤◌, suc, zero, ℕ}
 use native.Mathlib.Omega.{arith}
-use mathlib.Core.Bool.{Bool, false, not, true}
-use mathlib.Core.List.{List}
+use mathlib.Core.Bool.{Bool, not}
+use mathlib.Core.List.{List, [], ◌∷◌}
 use mathlib.Core.Path.{◌∙◌, ◌≡◌, ap, refl, sym}
 use lib.Dec.{eqb}
 use lib.ListN.{get_or-eq_default, drop, get_or, length}
 use lib.Seq.{drop-cons}
-use Rattle.layout.specs.Offsets.{states_at}
-use Rattle.layout.specs.Stands.{Stands, Tells}
-use Rattle.lists.specs.Lists.{first, first_or}
+use Rattle.layout.specs.Offsets.{priorities_at, states_at}
+use Rattle.layout.specs.Stands.{Tells}
+use Rattle.std.specs.List.{find, range_with_len, slice_range}
+use Rattle.std.specs.Option.{option_map, unwrap_or}
+use Rattle.std.specs.Prelude.{IfSome, None, Option, Some}
+use Rattle.lists.proofs.Bools.{split}
+use Rattle.lists.proofs.Folds.{part-at, part-long}
+use mir.Val.{bool_byte}
+use Rattle.lists.proofs.Walks.{filter-done, filter-in, filter-over}
+use Rattle.lists.proofs.RoundLaws.{filter-at}
+use Rattle.lists.specs.Lists.{filter, first, first_or}
+use Rattle.lists.specs.Numbers.{count_up, listed}
+use Rattle.order.specs.Row.{head}
+use Rattle.order.proofs.Found.{found-first, first-below}
+use Rattle.order.proofs.SearchLaws.{counted, up-below}
 use Rattle.tables.specs.Limits.{process_limit}
 use Rattle.tables.specs.Readers.{is_live, live, state_of}
 use Rattle.tables.specs.declared.Tables.{Tables}
 use Rattle.layout.proofs.Readers.{free-byte, state-stands}
 use Rattle.lists.proofs.Bools.{below?}
-use Rattle.lists.proofs.Searches.{Finds, find-end, find-here, find-on, passing-below, passing-in, passing-none, passing-over, past_first}
+use Rattle.lists.proofs.Searches.{passing-below, past_first}
 use Rattle.status.specs.Search.{live_from}
 
-pub live-byte : (bs : List ℕ) (p : ℕ) → p < process_limit → Tells (λ t. is_live t p) bs (not (eqb (get_or bs (states_at + p) 0) 0))
+-- the state byte of a slot that isn't free
+abbrev pub taken : ℕ → Bool
+taken b = not (eqb b 0)
+
+live-byte : (bs : List ℕ) (p : ℕ) → p < process_limit → Tells (λ t. is_live t p) bs (taken (get_or bs (states_at + p) 0))
 unfolding Tells
 live-byte bs p h t st = ap not (ap (λ (b : ℕ). eqb b 0) (state-stands t bs st p h) ∙ free-byte (state_of t p))
 
@@ -28,51 +44,73 @@ from_all t = refl
 
 -- Counting them
 
--- so many before number i, and those from there on, are all
-unfoldable pub CountsLive : ℕ → ℕ → List ℕ → Type 0
-CountsLive i n bs = (t : Tables) → Stands t bs → n + length (live_from t i) ≡ length (live t)
+-- so many of the entries before i are taken, and those from there on are the others
+abbrev pub CountsTaken : List ℕ → ℕ → ℕ → Type 0
+CountsTaken xs i n = (n ≤ i) × (n + length (filter taken (drop i xs)) ≡ length (filter taken xs))
+
+pub counts-on : (xs : List ℕ) (i n : ℕ) → CountsTaken xs i n → i < length xs → CountsTaken xs (i + 1) (n + bool_byte (taken (get_or xs i 0)))
+counts-on xs i n c h =
+    split (taken (get_or xs i 0))
+    (λ e. let more = ap length (filter-in taken xs i h e) in rw e (omega (arith, c.0), omega (arith, c.1, more)))
+    (λ e. let same = ap length (filter-over taken xs i h e) in rw e (omega (arith, c.0), omega (arith, c.1, same)))
+
+-- entries that pass, by their numbers
+by-number : (f g : ℕ → Bool) (xs : List ℕ) (k : ℕ) → ((i : ℕ) → i < length xs → f (get_or xs i 0) ≡ g (k + i)) → length (filter f xs) ≡ length (filter g (count_up k (length xs)))
+unfolding filter listed
+by-number f g [] k h = refl
+by-number f g (x ∷ xs) k h =
+    let on : length (filter f xs) ≡ length (filter g (count_up (suc k) (length xs))) = by-number f g xs (suc k) (λ i l. h (suc i) (omega arith) ∙ ap g (omega arith)) in
+    let here : f x ≡ g k = h 0 (omega arith) ∙ ap g (omega arith) in
+    split (g k) (λ e. rw (here, e) (ap suc on)) (λ e. rw (here, e) on)
 
 module _ (bs : List ℕ) where
-  pub counted_start : CountsLive 0 0 bs
-  unfolding CountsLive
-  counted_start t st = rw (from_all t) (omega arith)
+  -- the states
+  abbrev states : List ℕ
+  states = slice_range bs states_at priorities_at
 
-  module _ (i n : ℕ) (h : i < process_limit) (b : Bool) (told : Tells (λ t. is_live t i) bs b) (c : CountsLive i n bs) where
-    pub counted-in : b ≡ true → CountsLive (i + 1) (n + 1) bs
-    unfolding Tells CountsLive
-    counted-in e t st = let k : length (live_from t i) ≡ suc (length (live_from t (i + 1))) = ap length (passing-in (is_live t) process_limit i h (sym (told t st) ∙ e)) in omega (arith, c t st, k)
+  pub counts : (i n : ℕ) → CountsTaken states i n → length states ≤ i → Tells (λ t. length (live t)) bs n
+  unfolding Tells live
+  counts i n c end t st =
+      let long : length states ≡ process_limit = part-long bs states_at priorities_at (omega (arith, st.long)) in
+      let none : length (filter taken (drop i states)) ≡ 0 = ap length (filter-done taken states i end) in
+      omega (arith, c.1, none)
+      ∙ by-number taken (is_live t) states 0 (λ i h.
+      let l : i < process_limit = omega (arith, h, long) in
+      ap taken (part-at bs states_at priorities_at i l) ∙ live-byte bs i l t st ∙ ap (is_live t) (omega arith))
+      ∙ ap (λ (k : ℕ). length (filter (is_live t) (count_up 0 k))) long
 
-    pub counted-over : b ≡ false → CountsLive (i + 1) n bs
-    unfolding Tells CountsLive
-    counted-over e t st = ap (λ (l : List ℕ). n + length l) (sym (passing-over (is_live t) process_limit i h (sym (told t st) ∙ e))) ∙ c t st
+  -- Finding the first from a number on
 
-  pub counted-end : (i n : ℕ) → process_limit ≤ i → CountsLive i n bs → Tells (λ t. length (live t)) bs n
-  unfolding Tells CountsLive
-  counted-end i n h c t st = let k : length (live_from t i) ≡ 0 = ap length (passing-none (is_live t) process_limit i h) in omega (arith, c t st, k)
+  abbrev standing : ℕ → Bool
+  standing q = taken (get_or bs (states_at + q) 0)
 
--- Finding the first from a number on
+  module _ (p : ℕ) (r : Option ℕ) (e : option_map (λ x. x) r ≡ find standing (range_with_len p (process_limit - p))) where
+    abbrev numbers : List ℕ
+    numbers = count_up p (process_limit - p)
 
-unfoldable pub Seeks : ℕ → ℕ → List ℕ → Type 0
-Seeks p q bs = (t : Tables) → Stands t bs → Finds (is_live t) process_limit 0 p q
+    found : r ≡ head (filter standing numbers)
+    found = found-first standing (range_with_len p (process_limit - p)) r e ∙ ap (λ (xs : List ℕ). head (filter standing xs)) (counted p (process_limit - p))
 
-module _ (bs : List ℕ) (p : ℕ) where
-  pub seek-start : Seeks p p bs
-  unfolding Seeks
-  seek-start t st = refl
+    pub finds-below : IfSome r (λ q. q < process_limit)
+    finds-below = by r found
+      where
+        by : (o : Option ℕ) → o ≡ head (filter standing numbers) → IfSome o (λ q. q < process_limit)
+        by None k = tt
+        by (Some q) k = first-below standing process_limit q numbers (up-below p process_limit) (sym k)
 
-  module _ (q : ℕ) (s : Seeks p q bs) where
-    module _ (h : q < process_limit) (b : Bool) (told : Tells (λ t. is_live t q) bs b) where
-      pub seek-here : b ≡ true → Tells (λ t. first (live_from t p)) bs q
-      unfolding Tells Seeks
-      seek-here e t st = find-here (is_live t) process_limit 0 p q (s t st) h (sym (told t st) ∙ e)
+    pub finds : Tells (λ t. head (live_from t p)) bs r
+    unfolding Tells
+    finds t st = found ∙ ap head (filter-at standing (is_live t) numbers (λ i h. live-byte bs (get_or numbers i 0) (up-below p process_limit i h) t st))
 
-      pub seek-on : b ≡ false → Seeks p (q + 1) bs
-      unfolding Tells Seeks
-      seek-on e t st = find-on (is_live t) process_limit 0 p q (s t st) h (sym (told t st) ∙ e)
+-- or process 0 where there is none
+pub below-or-0 : (r : Option ℕ) → IfSome r (λ q. q < process_limit) → unwrap_or r 0 < process_limit
+below-or-0 None h = omega arith
+below-or-0 (Some q) h = h
 
-    pub seek-end : process_limit ≤ q → Tells (λ t. first (live_from t p)) bs 0
-    unfolding Tells Seeks
-    seek-end h t st = find-end (is_live t) process_limit 0 p q (s t st) h
+pub first_found : (xs : List ℕ) → unwrap_or (head xs) 0 ≡ first xs
+unfolding first_or
+first_found [] = refl
+first_found (x ∷ xs) = refl
 
 -- One after the other
 

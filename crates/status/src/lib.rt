@@ -6,7 +6,7 @@ pub mod page;
 
 // A row, as C has it: five bytes and no padding.
 #[repr(C)]
-#[derive(Clone, Copy)]
+#[derive(Clone, Copy, PartialEq, Eq, Debug)]
 pub struct Row {
     pub number: u8,
     // 1 current, 2 ready, 3 suspended, 4 waiting.

@@ -1,16 +1,12 @@
--- From each place on the search finds what it finds from the start. Assumes nothing.
-use Rattle.order.proofs.Found.{scan-end, scan-here, scan-on, scan-start}
-use borrow.Author.Rules.{rules}
+use Rattle.std.proofs.Common.{rules, tests}
+use Rattle.std.proofs.lemmas.Iterator.{YieldsList-from_slice}
+use Rattle.std.proofs.lemmas.Iterator.Search.{find_from_yields_List}
+use Rattle.std.proofs.lemmas.Iterator.Consumers.{YieldsList-at, YieldsList-from_copied}
+use Rattle.order.specs.Row.{has_state}
+use Rattle.order.proofs.Found.{find-tells}
 use Rattle.order.proofs.row.find.Goals as goal
 
-pub loop-i-init : goal.loop-i-init
-loop-i-init c = (search rules, scan-start _ _)
-
-pub returns-then-bytes-q : goal.returns-then-bytes-q
-returns-then-bytes-q c = scan-here _ _ _ _ (search rules) c.place-q.ensures c.loop-i.invariant.1 c.if-bytes-q.true
-
-pub loop-i-preserved : goal.loop-i-preserved
-loop-i-preserved c = (search rules, scan-on _ _ _ _ (search rules) c.place-q.ensures c.loop-i.invariant.1 c.if-bytes-q.false)
-
 pub returns : goal.returns
-returns c = scan-end _ _ _ (search rules) c.loop-i.invariant.1
+returns c =
+    find-tells c.args.b c.args.bytes.now _ c.row.ensures.1 _
+    (find_from_yields_List (has_state c.args.bytes.now c.args.b) _ _ c.find.result c.find.ensures.ran (YieldsList-from_copied (YieldsList-at c.copied.ensures.source (YieldsList-from_slice _ c.iter.ensures.rest))) (λ x b q k. search (rules, tests)))

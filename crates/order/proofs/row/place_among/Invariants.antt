@@ -1,10 +1,6 @@
-use Prim.Native.Nat.{◌+◌, ◌-◌, ◌≤◌}
-use Rattle.tables.specs.Limits.{process_limit}
+use Rattle.order.specs.Row.{has_state}
 use Rattle.order.proofs.Found.{CountsTo}
 use Rattle.order.proofs.row.place_among.Given as goal
 
-abbrev pub invariant-loop-i : goal.invariant-loop-i
-invariant-loop-i l = (l.i ≤ process_limit) × (l.n ≤ l.i + 1) × CountsTo l.b l.p l.i l.n l.bytes
-
-abbrev pub decreases-loop-i : goal.decreases-loop-i
-decreases-loop-i l = process_limit - l.i
+abbrev pub invariant-loop-q : goal.invariant-loop-q
+invariant-loop-q l = CountsTo (has_state l.bytes l.b) l.p l.q-items l.q-index l.n

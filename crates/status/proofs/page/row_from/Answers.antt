@@ -1,14 +1,8 @@
 -- Well-formed bytes stand for tables, and the row is one of those. Assumes nothing.
-use Rattle.layout.proofs.Image.{formed-long}
+use Rattle.std.proofs.Common.{rules}
 use Rattle.status.proofs.RowLaws.{row-from-is}
 use Rattle.status.proofs.page.row_from.Goals as goal
 
-pub live_from-requires : goal.live_from-requires
-live_from-requires c = formed-long _ c.requires
-
-pub row_of-requires : goal.row_of-requires
-row_of-requires c = formed-long _ c.requires
-
 pub returns : goal.returns
 returns c =
-    row-from-is _ c.args.p _ _ (λ i. (c.type_inv.bytes i).fits) c.requires c.live_from.ensures c.row_of.ensures
+    row-from-is c.args.bytes.now c.args.p _ _ _ (λ i. search rules) c.requires c.live_from.ensures.below c.live_from.ensures.told c.unwrap_or.ensures c.row_of.ensures
