@@ -1,8 +1,6 @@
 -- An argument as the number of an entry.
-use Rattle.std.specs.Prelude.{if◌then◌else◌, ℕ, ltb, negsuc, pos, ℤ}
-use Rattle.arguments.specs.declared.index.Index.{Index}
-use Rattle.arguments.specs.declared.index.Index.TheVariants.{At, Outside}
+use Rattle.std.specs.Prelude.{if◌then◌else◌, ℕ, ltb, negsuc, Option, Some, None, pos, ℤ}
 
-abbrev pub index_below : ℤ → ℕ → Index
-index_below (pos n) limit = if ltb n limit then At n else Outside
-index_below (negsuc n) limit = Outside
+abbrev pub index_below : ℤ → ℕ → Option ℕ
+index_below (pos n) limit = if ltb n limit then Some n else None
+index_below (negsuc n) limit = None

@@ -1,15 +1,15 @@
 // A call by its number: 13, then 14 if an argument that the call doesn't use isn't 0, then the call's own checks.
-ghost use Rattle.std.specs.Prelude.{◌≡◌, ◌<◌, ◌≤◌, length};
-ghost use Rattle.layout.specs.Offsets.{size};
-ghost use Rattle.rules.specs.Enter.{numbered};
+ghost use Rattle.rules.specs.Calls.{step};
+ghost use Rattle.rules.specs.Enter.{Reads, numbered};
 ghost use Rattle.scheduling.specs.Steps.{Leads, Meets, Runs};
 
-use arguments::counts::is_zero;
+use layout::offsets::SIZE;
 use processes::kill::kill;
 use processes::make_process::make_process;
 use processes::resume::resume;
 use processes::suspend::suspend;
 use processes::yields::yields;
+use rules::{Call, Refusal};
 use scheduling::step::{Step, Told, finish};
 use semaphores::count::count_of;
 use semaphores::delete::delete;
@@ -18,92 +18,60 @@ use semaphores::reset::reset;
 use semaphores::signal::signal;
 use semaphores::wait::wait;
 
-// 01 to 05, on semaphores.
-fn call_low(bytes: &mut [u8], c: u8, number: u8, a: i32, b: i32) -> Step
-    requires { length bytes.old ≡ size }
-    ensures { number < 6 → Runs c bytes.old → Leads (λ t. numbered t number a b) bytes.old bytes.new result }
+// Which call it is, by the paper's number, which stands here alone: each with the test that finds an argument that it doesn't use.
+fn read(number: u8, a: i32, b: i32) -> Result<Call, Refusal>
+    ensures { Reads number a b result }
 {
-    match number {
-        1 => if is_zero(b) {
-            wait(bytes, c, a)
-        } else {
-            Step::Refused(14)
-        },
-        2 => if is_zero(b) {
-            signal(bytes, a)
-        } else {
-            Step::Refused(14)
-        },
-        3 => if is_zero(b) {
-            make_semaphore(bytes, a)
-        } else {
-            Step::Refused(14)
-        },
-        4 => if is_zero(b) {
-            delete(bytes, a)
-        } else {
-            Step::Refused(14)
-        },
-        5 => reset(bytes, a, b),
-        _ => Step::Refused(13),
+    let (call, spare) = match number {
+        1 => (Call::Wait(a), b != 0),
+        2 => (Call::Signal(a), b != 0),
+        3 => (Call::MakeSemaphore(a), b != 0),
+        4 => (Call::Delete(a), b != 0),
+        5 => (Call::Reset(a, b), false),
+        6 => (Call::MakeProcess(a), b != 0),
+        7 => (Call::Resume(a), b != 0),
+        8 => (Call::Suspend(a), b != 0),
+        9 => (Call::Kill(a), b != 0),
+        10 => (Call::Yield, a != 0 || b != 0),
+        11 => (Call::Count(a), b != 0),
+        _ => return Err(Refusal::NoSuchCall),
+    };
+    if spare {
+        return Err(Refusal::SpareArgument);
+    }
+    Ok(call)
+}
+
+// `c` is the caller. That it runs (`Runs`) is so until the first write, and of no type.
+fn act(bytes: &mut [u8; SIZE], c: u8, call: Call) -> Result<Step, Refusal>
+    ensures { Runs c bytes.old → Leads (λ t. step t call) bytes.old bytes.new result }
+{
+    match call {
+        Call::Wait(a) => wait(bytes, c, a),
+        Call::Signal(a) => signal(bytes, a),
+        Call::MakeSemaphore(a) => make_semaphore(bytes, a),
+        Call::Delete(a) => delete(bytes, a),
+        Call::Reset(a, b) => reset(bytes, a, b),
+        Call::MakeProcess(a) => make_process(bytes, a),
+        Call::Resume(a) => resume(bytes, a),
+        Call::Suspend(a) => suspend(bytes, a),
+        Call::Kill(a) => kill(bytes, a),
+        Call::Yield => yields(bytes),
+        Call::Count(a) => count_of(bytes, a),
     }
 }
 
-// 06 to 0b, on processes, and the count.
-fn call_high(bytes: &mut [u8], number: u8, a: i32, b: i32) -> Step
-    requires { length bytes.old ≡ size }
-    ensures { 6 ≤ number → Leads (λ t. numbered t number a b) bytes.old bytes.new result }
-{
-    match number {
-        6 => if is_zero(b) {
-            make_process(bytes, a)
-        } else {
-            Step::Refused(14)
-        },
-        7 => if is_zero(b) {
-            resume(bytes, a)
-        } else {
-            Step::Refused(14)
-        },
-        8 => if is_zero(b) {
-            suspend(bytes, a)
-        } else {
-            Step::Refused(14)
-        },
-        9 => if is_zero(b) {
-            kill(bytes, a)
-        } else {
-            Step::Refused(14)
-        },
-        10 => if is_zero(a) & is_zero(b) {
-            yields(bytes)
-        } else {
-            Step::Refused(14)
-        },
-        11 => if is_zero(b) {
-            count_of(bytes, a)
-        } else {
-            Step::Refused(14)
-        },
-        _ => Step::Refused(13),
-    }
-}
-
-fn act(bytes: &mut [u8], c: u8, number: u8, a: i32, b: i32) -> Step
-    requires { length bytes.old ≡ size }
+fn read_and_act(bytes: &mut [u8; SIZE], c: u8, number: u8, a: i32, b: i32) -> Result<Step, Refusal>
     ensures { Runs c bytes.old → Leads (λ t. numbered t number a b) bytes.old bytes.new result }
 {
-    if number < 6 {
-        return call_low(bytes, c, number, a, b);
-    }
-    call_high(bytes, number, a, b)
+    let call = read(number, a, b)?;
+    act(bytes, c, call)
 }
 
 // `c` is the current process.
-pub fn call(bytes: &mut [u8], c: u8, number: u8, a: i32, b: i32) -> Told
-    requires { length bytes.old ≡ size }
+pub fn call(bytes: &mut [u8; SIZE], c: u8, number: u8, a: i32, b: i32) -> Told
     ensures { Runs c bytes.old → Meets (λ t. numbered t number a b) bytes.old bytes.new result }
 {
-    let step = act(bytes, c, number, a, b);
+    let step = read_and_act(bytes, c, number, a, b).map_err(u8::from);
     finish(bytes, c, step)
 }

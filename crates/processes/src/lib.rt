@@ -5,4 +5,5 @@ pub mod kill;
 pub mod make_process;
 pub mod resume;
 pub mod suspend;
+pub mod target;
 pub mod yields;

@@ -1,11 +1,12 @@
 // Call 0a, yield: a reschedule follows. Answers 1.
-ghost use Rattle.rules.specs.Calls.{Yield, step};
+ghost use Rattle.rules.specs.Calls.{step};
 ghost use Rattle.scheduling.specs.Steps.{Leads};
 
+use rules::{Call, Refusal};
 use scheduling::step::Step;
 
-pub fn yields(bytes: &[u8]) -> Step
-    ensures { Leads (λ t. step t Yield) bytes.now bytes.now result }
+pub fn yields(bytes: &[u8]) -> Result<Step, Refusal>
+    ensures { Leads (λ t. step t Call.Yield) bytes.now bytes.now result }
 {
-    Step::Switches(1)
+    Ok(Step::Switches(1))
 }

@@ -1,18 +1,16 @@
 -- Scheduling, composed of moves along the row and stores. Assumes nothing.
-use Rattle.std.specs.Prelude.{if◌then◌else◌}
-use Prim.Native.Nat.{◌+◌, ◌<◌, ℕ}
+use Rattle.std.specs.Prelude.{if◌then◌else◌, None, Option, Some}
+use Prim.Native.Nat.{◌<◌, ℕ}
 use native.Mathlib.Omega.{arith}
 use mathlib.Core.Bool.{Bool, false, true, true≢false}
 use mathlib.Core.List.{List, [], ◌∷◌}
-use mathlib.Core.Path.{◌∙◌, ◌≡◌, ap, fun_ext, refl, subst, sym}
+use mathlib.Core.Path.{◌∙◌, ◌≡◌, ap, refl, subst, sym}
 use lib.Dec.{ltb}
-use lib.ListN.{get_or, length}
-use borrow.Author.Tests.{eq-eqb, le-ltb, ne_eqb}
-use Rattle.layout.specs.Bytes.{state_byte}
-use Rattle.layout.specs.Offsets.{states_at}
+use lib.ListN.{length}
+use borrow.Author.Tests.{eq-eqb, ne_eqb}
 use Rattle.layout.specs.Stands.{Stands, Tells, Turns}
-use Rattle.lists.specs.Lists.{filter, place, put_before, times, without}
-use Rattle.order.specs.Row.{below, found, placed}
+use Rattle.lists.specs.Lists.{filter, place, put_before, take_out, times, without}
+use Rattle.order.specs.Row.{found, placed, put_last}
 use Rattle.rules.specs.Schedule.{joining, make_ready, make_wait, reschedule, start_first, switch}
 use Rattle.tables.specs.Limits.{process_limit}
 use Rattle.tables.specs.Readers.{current_of, currents, line, priority_of, process, ready_list, state_of}
@@ -23,10 +21,9 @@ use Rattle.tables.specs.declared.Process.{Process}
 use Rattle.tables.specs.declared.State.TheVariants.{Current, Ready, Waiting}
 use Rattle.tables.specs.declared.Tables.{Tables}
 use Rattle.layout.proofs.Compose.{in-turn, with-told}
-use Rattle.layout.proofs.Readers.{state-stands}
 use Rattle.lists.proofs.Bools.{split}
-use Rattle.lists.proofs.ListLaws.{times-filter}
-use Rattle.order.proofs.Found.{current-byte, line-ready, told-nobody, told-somebody}
+use Rattle.lists.proofs.ListLaws.{put_before-last, times-filter}
+use Rattle.order.proofs.Found.{line-ready, told-nobody, told-somebody}
 use Rattle.rules.proofs.Joins.{ready-joined}
 use Rattle.tables.proofs.LineLaws.{at_same, line_first}
 use Rattle.tables.proofs.Sentences.{current-unique}
@@ -41,14 +38,11 @@ ready-turns p x a b c told moved put h =
     with-told (λ t. process t p) a x (told h) (λ y t. with_state (placed p y.priority t) p Ready) c
     (in-turn (placed p x.priority) (λ t. with_state t p Ready) a b c (moved h) (put h))
 
--- nobody is below level 0
-never : (t : Tables) → below 0 t ≡ (λ x. false)
-never t = fun_ext (λ x. split (is_ready (state_of t x)) (λ e. rw e (le-ltb (priority_of t x) 0 (omega arith))) (λ e. rw e refl))
-
-pub wait-turns : (p s : ℕ) (a b c : List ℕ) → (p < process_limit → Turns (placed p 0) a b) → (p < process_limit → Turns (λ t. with_state t p (Waiting s)) b c) → p < process_limit → Turns (λ t. make_wait t p s) a c
-unfolding Turns joining
+-- before nobody is last
+pub wait-turns : (p s : ℕ) (a b c : List ℕ) → (p < process_limit → Turns (λ t. with_order t (put_last p t.order)) a b) → (p < process_limit → Turns (λ t. with_state t p (Waiting s)) b c) → p < process_limit → Turns (λ t. make_wait t p s) a c
+unfolding Turns joining place
 wait-turns p s a b c moved put h t st =
-    subst (λ (f : ℕ → Bool). Stands (with_state (with_order t (place f p t.order)) p (Waiting s)) c) (never t) (put h (placed p 0 t) (moved h t st))
+    subst (λ (xs : List ℕ). Stands (with_state (with_order t xs) p (Waiting s)) c) (sym (put_before-last p (take_out p t.order))) (put h (with_order t (put_last p t.order)) (moved h t st))
 
 -- Who is current, where nobody but c may be
 
@@ -80,31 +74,35 @@ module _ (c : ℕ) (t : Tables) (o : Only c t) where
       let test : ℕ → Bool = λ x. ltb (priority_of t x) (priority_of t c) in
       (put_before test c (without c fs), ready-joined test t c hp (once h) ∙ rw (e, ne_eqb f c other, low) refl)
 
--- Rescheduling: f is the first of the ready list
+-- Rescheduling: who is found is the first of the ready list
 
-module _ (c f : ℕ) (a : List ℕ) (ready : Tells (found 2) a f) where
-  pub resched-nobody : f ≡ process_limit → Reschedules c a a c
+module _ (c : ℕ) (a : List ℕ) (r : Option ℕ) (ready : Tells (found 2) a r) where
+  pub resched-nobody : r ≡ None → Reschedules c a a c
   unfolding Reschedules reschedule switch
-  resched-nobody e t st o = rw (sym (line-ready t) ∙ told-nobody 2 f a ready t st e) (st, only-runs c t o)
+  resched-nobody e t st o = rw (sym (line-ready t) ∙ told-nobody 2 a r ready t st e) (st, only-runs c t o)
 
-  module _ (some : f ≡ process_limit → ⊥) where
+  module _ (f : ℕ) (some : r ≡ Some f) (x : Process) (tx : c < process_limit → Tells (λ t. process t c) a x) where
     ready-first : (t : Tables) → Stands t a → (f < process_limit) × (fs : List ℕ) × (ready_list t ≡ f ∷ fs)
-    ready-first t st = let w = told-somebody 2 f a ready t st some in (w.0, w.1, sym (line-ready t) ∙ w.2)
+    ready-first t st = let w = told-somebody 2 a r ready t st f some in (w.0, w.1, sym (line-ready t) ∙ w.2)
 
     -- who is made current last runs
     last_runs : (u : Tables) → length u.processes ≡ process_limit → f < process_limit → Sound (with_state u f Current) → f ≡ current_of (with_state u f Current)
     last_runs u l h S = sym (current-unique S f (ap (λ (x : Process). is_current x.state) (at_same u f (in_state Current (process u f)) (omega arith))))
 
-    pub resched-start : (b : List ℕ) → (get_or a (states_at + c) 0 ≡ 1 → ⊥) → (f < process_limit → Turns (λ t. with_state t f Current) a b) → Reschedules c a b f
+    -- c is current if its slot, as it was read, is
+    as_read : (t : Tables) → Stands t a → Only c t → is_current (state_of t c) ≡ is_current x.state
+    unfolding Tells
+    as_read t st o = ap (λ (z : Process). is_current z.state) (sym (tx o.below t st))
+
+    pub resched-start : (b : List ℕ) → is_current x.state ≡ false → (f < process_limit → Turns (λ t. with_state t f Current) a b) → Reschedules c a b f
     unfolding Reschedules Turns reschedule switch start_first
     resched-start b stopped put t st o =
         let w = ready-first t st in
-        let still : is_current (state_of t c) ≡ false = sym (current-byte (state_of t c)) ∙ ne_eqb (state_byte (state_of t c)) 1 (λ z. stopped (state-stands t a st c o.below ∙ z)) in
-        rw (w.2, only-nobody c t o still, w.2) (put w.0 t st, last_runs t st.held.slots w.0)
+        rw (w.2, only-nobody c t o (as_read t st o ∙ stopped), w.2) (put w.0 t st, last_runs t st.held.slots w.0)
 
-    module _ (runs_on : get_or a (states_at + c) 0 ≡ 1) (x y : Process) (tx : c < process_limit → Tells (λ t. process t c) a x) (ty : f < process_limit → Tells (λ t. process t f) a y) where
+    module _ (on : is_current x.state ≡ true) (y : Process) (ty : f < process_limit → Tells (λ t. process t f) a y) where
       runs : (t : Tables) → Stands t a → Only c t → is_current (state_of t c) ≡ true
-      runs t st o = sym (current-byte (state_of t c)) ∙ eq-eqb (state_byte (state_of t c)) 1 (sym (state-stands t a st c o.below) ∙ runs_on)
+      runs t st o = as_read t st o ∙ on
 
       test : (t : Tables) → Stands t a → Only c t → ltb y.priority x.priority ≡ ltb (priority_of t f) (priority_of t c)
       unfolding Tells

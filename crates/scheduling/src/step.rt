@@ -1,14 +1,14 @@
 // What a call comes to, and the one place that reschedules.
-ghost use Rattle.std.specs.Prelude.{◌≡◌, length};
-ghost use Rattle.layout.specs.Offsets.{size};
+ghost use Rattle.std.specs.Prelude.{◌≡◌};
 ghost use Rattle.scheduling.specs.Steps.{Ends};
 
 use crate::schedule::reschedule;
+use layout::offsets::SIZE;
 use rules::Answer;
 
+// What a call that isn't refused comes to.
 #[derive(Clone, Copy)]
 pub enum Step {
-    Refused(u8),
     // Done, with this value.
     Done(i32),
     // Done, with this value, and a reschedule follows.
@@ -22,26 +22,25 @@ pub struct Told {
     pub running: u8,
 }
 
-// The end of a call that `c` made: nobody else is current.
-pub fn finish(bytes: &mut [u8], c: u8, step: Step) -> Told
-    requires { length bytes.old ≡ size }
+// The end of a call that `c` made: nobody else is current. A refusal is a number here, any number: document 01 has it so in an answer (`refused`).
+pub fn finish(bytes: &mut [u8; SIZE], c: u8, step: Result<Step, u8>) -> Told
     ensures { Ends c step bytes.old bytes.new result }
 {
     match step {
-        Step::Refused(n) => Told {
-            answer: Answer::Refused(n),
-            running: c,
-        },
-        Step::Done(v) => Told {
+        Ok(Step::Done(v)) => Told {
             answer: Answer::Done(v),
             running: c,
         },
-        Step::Switches(v) => {
+        Ok(Step::Switches(v)) => {
             let running = reschedule(bytes, c);
             Told {
                 answer: Answer::Done(v),
                 running,
             }
         }
+        Err(n) => Told {
+            answer: Answer::Refused(n),
+            running: c,
+        },
     }
 }

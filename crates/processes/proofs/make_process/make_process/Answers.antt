@@ -1,27 +1,20 @@
 -- By the two checks in order. Assumes nothing.
-use mir.Syntax.{w32}
-use mir.ValLaws.{to_z_pos}
-use Rattle.processes.proofs.MakeLaws.{make-11, make-11-null, make-8, make-process-done}
-use Rattle.arguments.proofs.IndexLaws.{passed}
+use Rattle.processes.proofs.MakeLaws.{make-11, make-8, make-process-done}
+use Rattle.scheduling.proofs.StepLaws.{answered, lacks}
 use borrow.Author.Rules.{rules}
 use Rattle.processes.proofs.make_process.make_process.Goals as goal
 
-pub returns-then-priority-eq0 : goal.returns-then-priority-eq0
-returns-then-priority-eq0 c =
-    let at = passed _ _ _ _ c.ranges.a c.index_below-index.ensures c.in-At.is in
-    make-11-null c.args.a _ at _ c.if-priority-eq0.true
+pub returns-in_err-priority : goal.returns-in_err-priority
+returns-in_err-priority c = make-11 c.args.a c.ranges.a _ _ _ c.from_residual.ensures.1 c.in_err-priority.ensures.none
 
-pub returns-then-i-eq-PROCESSES : goal.returns-then-i-eq-PROCESSES
-returns-then-i-eq-PROCESSES c =
-    let at = passed _ _ _ _ c.ranges.a c.index_below-index.ensures c.in-At.is in
-    make-8 c.args.a _ at c.if-priority-eq0.false _ _ _ c.next_process-from.ensures c.free_round-i.ensures.1 c.if-i-eq-PROCESSES.true
+pub returns-in_err-i : goal.returns-in_err-i
+returns-in_err-i c =
+    let none = c.in_err-i.ensures.ok_part in
+    lacks _ _ _ _ _ _ _ none c.in_err-i.ensures.value c.from_residual-in_err-i.ensures.1
+    (make-8 c.args.a c.ranges.a _ c.in_ok-priority.ensures.given _ _ _ c.next_process-from.ensures (rw c.from.ensures at c.free_round.ensures.1) none)
 
-pub returns-in-Outside : goal.returns-in-Outside
-returns-in-Outside c = make-11 c.args.a _ (passed _ _ _ _ c.ranges.a c.index_below-index.ensures c.in-Outside.is)
-
-pub returns-else-i-eq-PROCESSES : goal.returns-else-i-eq-PROCESSES
-returns-else-i-eq-PROCESSES c =
-    let at = passed _ _ _ _ c.ranges.a c.index_below-index.ensures c.in-At.is in
+pub returns : goal.returns
+returns c =
     let move = rw c.one_past.ensures at c.put_next_process.ensures in
-    let value = to_z_pos w32 c.free_round-i.result (search rules) in
-    make-process-done c.args.a _ at c.if-priority-eq0.false _ _ _ c.next_process-from.ensures c.free_round-i.ensures.1 _ _ c.put_process.ensures move _ value c.if-i-eq-PROCESSES.false
+    let value = answered _ _ c.from-2.type_inv c.from-2.ensures in
+    make-process-done c.args.a c.ranges.a _ c.in_ok-priority.ensures.given _ _ _ c.next_process-from.ensures (rw c.from.ensures at c.free_round.ensures.1) _ c.in_ok-i.ensures.ok_part _ _ c.put_process.ensures move (search rules) _ value

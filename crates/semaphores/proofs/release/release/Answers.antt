@@ -1,16 +1,10 @@
 -- By whether anybody waits. Assumes nothing.
-use mir.Syntax.{w32}
-use mir.ValLaws.{to_z-of_z}
 use Rattle.semaphores.proofs.ReleaseLaws.{release-none, release-some}
-use borrow.Author.Rules.{rules}
 use Rattle.semaphores.proofs.release.release.Goals as goal
 
-pub returns-then-w-eq-NOBODY : goal.returns-then-w-eq-NOBODY
-returns-then-w-eq-NOBODY c =
-    let put = rw (to_z-of_z w32 c.args.count c.ranges.count) at c.put_semaphore.ensures in
-    release-none _ (record { used = c.args.used; count = c.args.count }) (search rules) _ _ c.find-w.ensures _ put c.if-w-eq-NOBODY.true
+pub returns-then-is_none : goal.returns-then-is_none
+returns-then-is_none c = release-none _ c.args.entry c.args.s.below _ _ c.find.ensures _ c.put_semaphore.ensures c.if-is_none.ensures
 
 pub returns : goal.returns
 returns c =
-    let put = rw (to_z-of_z w32 c.args.count c.ranges.count) at c.put_semaphore-2.ensures in
-    release-some _ (record { used = c.args.used; count = c.args.count }) (search rules) _ _ c.find-w.ensures _ put _ _ c.if-w-eq-NOBODY.false c.picked-ps.ensures c.make_all_ready.ensures
+    release-some _ c.args.entry c.args.s.below _ _ c.find.ensures _ c.put_semaphore-2.ensures c.picked-ps.result _ c.if-is_none.ensures c.picked-ps.ensures c.make_all_ready.ensures
