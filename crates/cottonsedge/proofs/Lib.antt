@@ -5,3 +5,4 @@ pub mod FieldLaws
 pub mod Calls
 pub mod BootBytes
 pub mod PageLaws
+pub mod WalkLaws

@@ -1,24 +1,31 @@
 // An answer as one number: the refusal in 8 bits, the value in 32, the process in 8.
 ghost use Rattle.std.specs.Prelude.{◌≡◌};
-ghost use Rattle.std.specs.Int.{w32};
-ghost use Rattle.std.proofs.Common.{of_z};
-ghost use Rattle.cottonsedge.specs.Fields.{joined, packed};
+ghost use Rattle.tables.specs.Readers.{nobody};
+ghost use Rattle.rules.specs.declared.Answer.TheVariants.{Refused};
+ghost use Rattle.cottonsedge.specs.Fields.{packed};
 
-use layout::word::unsigned;
-use rules::Answer;
+use rules::{Answer, Refusal};
+use soundness::check::NOBODY;
 
-fn fields(refusal: u8, value: i32, process: u16) -> u64
-    ensures { result ≡ joined refusal (of_z w32 value) process }
-{
-    let bits = unsigned(value);
-    (refusal as u64) * 1099511627776 + (bits as u64) * 256 + (process as u64)
-}
+const VALUE_STEP: u64 = 1 << 8;
+
+const REFUSAL_STEP: u64 = 1 << 40;
 
 pub fn pack(answer: Answer, process: u16) -> u64
     ensures { result ≡ packed answer process }
 {
-    match answer {
-        Answer::Done(value) => fields(0, value, process),
-        Answer::Refused(number) => fields(number, -1, process),
-    }
+    let (refusal, value) = match answer {
+        Answer::Done(value) => (0, value),
+        Answer::Refused(number) => (number, -1),
+    };
+    u64::from(refusal) * REFUSAL_STEP
+        + u64::from(value.cast_unsigned()) * VALUE_STEP
+        + u64::from(process)
+}
+
+// Of tables that aren't sound nobody is known to run.
+pub(crate) fn not_sound() -> u64
+    ensures { result ≡ packed (Refused 15) nobody }
+{
+    pack(Answer::Refused(Refusal::NotSound.into()), NOBODY.into())
 }

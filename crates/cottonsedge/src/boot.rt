@@ -1,45 +1,35 @@
 // The boot tables, written where they are lent.
 ghost use Rattle.std.specs.Prelude.{◌≡◌};
 ghost use Rattle.tables.specs.Boot.{boot};
-ghost use Rattle.layout.specs.Offsets.{states_at, order_at, next_semaphore_at};
-ghost use Rattle.layout.specs.Begun.{Begun};
+ghost use Rattle.layout.specs.Bytes.{to_bytes};
 ghost use Rattle.cottonsedge.specs.Entries.{boot_answer, booted};
 
 use layout::offsets::{NEXT_PROCESS, NEXT_SEMAPHORE, ORDER, SIZE, STATES};
 use layout::state::CURRENT;
-use tables::Tables;
+use rules::Refusal;
 
-// Process 0 is current, every other slot and every semaphore is free: up to the row each byte but the first is 0.
-fn put_free(bytes: &mut [u8])
-    requires { Begun boot states_at bytes.old }
-    ensures { Begun boot order_at bytes.new }
+// Process 0 is current, every other slot and every semaphore is free, the process numbers rise. In place: an encoded `Tables::boot()` takes 2504 bytes of stack, where docs/FIRMWARE.md has less than 1 KiB, and this 24.
+fn put_boot(bytes: &mut [u8; SIZE])
+    ensures { bytes.new ≡ to_bytes boot }
 {
+    bytes.fill(0);
     bytes[STATES] = CURRENT;
-    for i in STATES + 1..ORDER {
-        bytes[i] = 0;
+    for (i, place) in bytes[ORDER..NEXT_SEMAPHORE].iter_mut().enumerate() {
+        *place = i as u8;
     }
+    bytes[NEXT_PROCESS] = 1;
 }
 
-// The process numbers as they rise.
-fn put_row(bytes: &mut [u8])
-    requires { Begun boot order_at bytes.old }
-    ensures { Begun boot next_semaphore_at bytes.new }
-{
-    for i in 0..Tables::PROCESSES {
-        bytes[ORDER + i] = i as u8;
-    }
-}
-
-// 0 with the boot tables written, or 15 with nothing written if the length is wrong.
+// 0 with the boot tables written, or 15 with nothing written if the length is wrong: a number, as C has it.
+#[tactic(auto, unfolding(crate::specs::Entries::boot_answer, crate::specs::Entries::booted))]
 pub fn cottonsedge_boot(tables: &mut [u8]) -> u8
     ensures { (result ≡ boot_answer tables.old) × (tables.new ≡ booted tables.old) }
 {
-    if tables.len() != SIZE {
-        return 15;
+    match tables.as_mut_array() {
+        Some(bytes) => {
+            put_boot(bytes);
+            0
+        }
+        None => Refusal::NotSound.into(),
     }
-    put_free(tables);
-    put_row(tables);
-    tables[NEXT_SEMAPHORE] = 0;
-    tables[NEXT_PROCESS] = 1;
-    0
 }

@@ -2,14 +2,17 @@
 ghost use Rattle.std.specs.Prelude.{◌≡◌};
 ghost use Rattle.cottonsedge.specs.Entries.{check_answer};
 
+use rules::Refusal;
 use soundness::check::is_sound;
 
-// 0, or 15 if the tables lent aren't sound, or are too short or too long.
+// 0, or 15 if the tables lent aren't sound, or are too short or too long: a number, as C has it.
+#[tactic(auto, unfolding(crate::specs::Entries::check_answer))]
 pub fn cottonsedge_check(tables: &[u8]) -> u8
     ensures { result ≡ check_answer tables.now }
 {
     if is_sound(tables) {
-        return 0;
+        0
+    } else {
+        Refusal::NotSound.into()
     }
-    15
 }

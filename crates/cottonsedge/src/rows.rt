@@ -1,59 +1,44 @@
 // The status page.
-ghost use Rattle.std.specs.Prelude.{◌≡◌};
-ghost use Rattle.cottonsedge.specs.Pages.{Paged};
-ghost use Rattle.cottonsedge.specs.Walk.{page_of};
+ghost use Rattle.std.specs.Prelude.{◌≡◌, true, length};
+ghost use Rattle.soundness.specs.Good.{good};
+ghost use Rattle.cottonsedge.specs.Pages.{Paged, page_answer, rows_after};
 
-use crate::answer::pack;
-use rules::Answer;
-use soundness::check::current;
-use soundness::running::UNKNOWN;
+use crate::answer::{not_sound, pack};
+use layout::offsets::SIZE;
+use rules::{Answer, Refusal};
+use soundness::check::runner;
 use status::Row;
 use status::live::live_count;
 use status::page::row_from;
 
-// What is answered, and how many rows are written.
-#[derive(Clone, Copy)]
-pub struct Page {
-    pub answer: u64,
-    pub rows: usize,
-}
-
-fn page_of(tables: &[u8], lent: usize) -> Page
-    ensures { result ≡ page_of tables.now lent }
+// Of sound tables. Row after row, as document 01 names the walk.
+fn page_of(bytes: &[u8; SIZE], rows: &mut [Row]) -> Answer
+    requires { good bytes.now ≡ true }
+    ensures answer { result ≡ page_answer bytes.now (length rows.old) }
+    ensures rows { rows.new ≡ rows_after bytes.now rows.old }
 {
-    let c = current(tables);
-    if c == UNKNOWN {
-        return Page {
-            answer: pack(Answer::Refused(15), c as u16),
-            rows: 0,
-        };
+    let many = live_count(bytes);
+    if rows.len() < many as usize {
+        return Answer::Refused(Refusal::FewRows.into());
     }
-    let many = live_count(tables);
-    if lent < many as usize {
-        return Page {
-            answer: pack(Answer::Refused(16), c as u16),
-            rows: 0,
-        };
+    let mut p = 0u8;
+    for row in rows[..many as usize].iter_mut() {
+        *row = row_from(bytes, p);
+        // The next one is looked for behind it.
+        p = row.number + 1;
     }
-    Page {
-        answer: pack(Answer::Done(many as i32), c as u16),
-        rows: many as usize,
-    }
+    Answer::Done(many.into())
 }
 
 // A row for each live process, in rising number; the rows behind them, and at a refusal all of them, are left as they were. The tables are lent to be read.
 pub fn cottonsedge_rows(tables: &[u8], rows: &mut [Row]) -> u64
     ensures { Paged tables.now rows.old result rows.new }
 {
-    let page = page_of(tables, rows.len());
-    let mut i: usize = 0;
-    let mut p = 0u8;
-    while i < page.rows {
-        let row = row_from(tables, p);
-        // The next one is looked for behind it.
-        p = row.number + 1;
-        rows[i] = row;
-        i = i + 1;
+    if let Some(c) = runner(tables)
+        && let Some(bytes) = tables.as_array()
+    {
+        pack(page_of(bytes, rows), c.into())
+    } else {
+        not_sound()
     }
-    page.answer
 }

@@ -6,9 +6,8 @@ use kernel::enter;
 use layout::decode::decode;
 use layout::encode::encode;
 use layout::offsets::SIZE;
-use rules::{Answer, Outcome, Reply};
-use soundness::check::current;
-use soundness::running::UNKNOWN;
+use rules::{Answer, Outcome, Refusal, Reply};
+use soundness::check::{NOBODY, runner};
 use tables::Tables;
 
 pub fn call(tables: Tables, number: u8, a: i32, b: i32) -> Reply
@@ -16,26 +15,23 @@ pub fn call(tables: Tables, number: u8, a: i32, b: i32) -> Reply
 {
     let mut bytes = [0u8; SIZE];
     encode(&mut bytes, tables);
-    let c = current(&bytes);
-    if c == UNKNOWN {
-        let refused = Outcome {
-            tables,
-            answer: Answer::Refused(15),
-        };
-        return Reply {
-            outcome: refused,
-            running: UNKNOWN,
-        };
-    }
-    let told = enter::call(&mut bytes, c, number, a, b);
-    let answer = told.answer;
-    let left = decode(&bytes);
-    let outcome = Outcome {
-        tables: left,
-        answer,
-    };
-    Reply {
-        outcome,
-        running: told.running,
+    match runner(&bytes) {
+        Some(c) => {
+            let told = enter::call(&mut bytes, c, number, a, b);
+            Reply {
+                outcome: Outcome {
+                    tables: decode(&bytes),
+                    answer: told.answer,
+                },
+                running: told.running,
+            }
+        }
+        None => Reply {
+            outcome: Outcome {
+                tables,
+                answer: Answer::Refused(Refusal::NotSound.into()),
+            },
+            running: NOBODY,
+        },
     }
 }

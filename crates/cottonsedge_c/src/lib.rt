@@ -1,4 +1,4 @@
-// The four functions that firmware links, each the one of `cottonsedge` with the same clauses: only what stands here is exported.
+// The four functions that firmware links, each the one of `cottonsedge` with the same clauses: C links them by these names, and only what stands here is exported.
 #![tactic(auto)]
 
 pub mod boot;

@@ -1,30 +1,27 @@
--- Bytes of which nobody is known to run are answered 15 as they came; good ones are called by the rules. Assumes nothing.
-use Prim.Native.Nat.{◌<◌, ℕ}
-use mathlib.Core.Path.{◌∙◌}
-use lib.ListN.{get_or}
-use borrow.Author.Rules.{rules}
-use Rattle.cottonsedge.proofs.Entry.{called-answer, called-bytes, handed-on, refused-answer, refused-bytes}
-use Rattle.cottonsedge.proofs.Standing.{known-runs}
-use Rattle.layout.proofs.Image.{formed-long}
-use Rattle.soundness.proofs.GoodBytes.{good-formed, known-good, unknown-bad}
+-- Bytes that aren't good are answered 15 as they came; good ones are called by the rules. Assumes nothing.
+use Rattle.std.proofs.Common.{rules, ◌≡◌, ◌∙◌, sym, inl, inr}
+use Rattle.std.specs.Prelude.{None}
+use Rattle.cottonsedge.proofs.Entry.{called-good, not-good, refused-bad}
 use Rattle.cottonsedge.proofs.call.cottonsedge_call.Goals as goal
+use Rattle.cottonsedge.proofs.call.cottonsedge_call.Goals.{in_default-via-in-Some+in-None-1, in_default-via-in-None-1}
 
-pub returns-then-c : goal.returns-then-c
-returns-then-c c =
+pub returns-in-Some-as_mut_array : goal.returns-in-Some-as_mut_array
+returns-in-Some-as_mut_array c =
+    let told = c.call-told in
+    let whole = c.in-Some-as_mut_array.ensures.cases in
+    called-good _ _ _ _ _ _ _ _ _ told.result c.ranges.a c.ranges.b c.in-Some.ensures whole.same (λ i. search rules) told.ensures c.into.ensures c.pack.ensures
+
+pub returns-in_default : goal.returns-in_default
+returns-in_default c =
     let bs = c.args.tables.now in
-    let bad = unknown-bad bs _ c.current-c.ensures c.if-c.true in
-    let byte : (i : ℕ) → get_or bs i 0 < 256 = λ i. search rules in
-    record { answer = c.pack.ensures ∙ refused-answer bs _ _ _ bad; bytes = refused-bytes bs _ _ _ bad byte }
-
-pub call-told-requires : goal.call-told-requires
-call-told-requires c =
-    formed-long _ (good-formed _ (known-good _ _ c.current-c.ensures c.if-c.false).0)
-
-pub returns : goal.returns
-returns c =
-    let bs = c.args.tables.now in
-    let known = known-good bs _ c.current-c.ensures c.if-c.false in
-    let byte : (i : ℕ) → get_or bs i 0 < 256 = λ i. search rules in
-    let called = c.call-told in
-    let d = handed-on c.args.call c.args.a c.args.b bs called.new.bytes called.result c.ranges.a c.ranges.b (called.ensures (known-runs bs _ known.1)) in
-    record { answer = c.pack-2.ensures ∙ called-answer bs _ _ _ _ _ byte known.0 d; bytes = called-bytes bs _ _ _ _ _ byte known.0 d }
+    let bad = not-good bs (elim c.in_default.branch [
+      | in_default-via-in-None-1 w ↦ let none : c.runner.result ≡ None = search rules in inl (sym none ∙ c.runner.ensures)
+      | in_default-via-in-Some+in-None-1 w ↦ let none : w.as_mut_array.result ≡ None = search rules in let other = w.as_mut_array.ensures.cases in inr (rw none at other)
+    ])
+    in
+    let same : c.in_default.tables ≡ bs = elim c.in_default.branch [
+      | in_default-via-in-None-1 w ↦ w.tables-is
+      | in_default-via-in-Some+in-None-1 w ↦ w.tables-is
+    ]
+    in
+    refused-bad bs _ _ _ _ _ bad (λ i. search rules) same c.not_sound.ensures
