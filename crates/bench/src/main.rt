@@ -2,63 +2,69 @@
 // writes an answer to each.
 #![tactic(auto)]
 
+ghost use Rattle.std.specs.Prelude.{◌≡◌, ◌≤◌, length, IfOk, OnOk};
+ghost use Rattle.std.specs.Io.KnownBytes.{Appends};
+ghost use Rattle.feed.specs.Feed.{ending, held_after, held_in, holding, written_over};
+ghost use Rattle.bench.specs.Run.{AllAnswered};
+
 use cottonsedge::boot::cottonsedge_boot;
 use feed::feed::{Part, ROOM, feed, finish};
 use layout::offsets::SIZE;
-use std::io::{Print, Read};
+use std::io;
+use std::io::{Read, Write};
 
 const CHUNK: usize = 4096;
 
-// The end of the input, or of what can be read of it: a last line without a newline is answered.
-fn serve_last(output: &impl Print, tables: &mut [u8], part: Part) {
-    let mut out = [0u8; ROOM];
-    let fed = finish(tables, part, &mut out);
-    let written = fed.written;
-    // Nothing follows, so a failure changes nothing.
-    let _ = output.write_all(&out[..written]);
-}
-
-// Reads once, and writes the answers to the lines that ended there before anything more is read:
-// the line that is left, or None where the input or the output has ended.
-fn serve_some(
-    input: &mut impl Read,
-    output: &impl Print,
+// The answers to the lines that end in what was read, written before anything more is read, and the
+// line that is left.
+fn answer_chunk<W: Write>(
+    output: &mut W,
     tables: &mut [u8],
     part: Part,
-) -> Option<Part> {
-    let mut chunk = [0u8; CHUNK];
-    // A read that fails is the input's end.
-    let n = input.read(&mut chunk).unwrap_or(0);
-    if n == 0 {
-        serve_last(output, tables, part);
-        return None;
-    }
+    chunk: &[u8],
+) -> io::Result<Part>
+    requires { length chunk.now ≤ CHUNK }
+    ensures wrote { OnOk result (Appends (W.contents output.old) (W.contents output.new) (written_over (holding tables.old part) chunk.now)) }
+    ensures held { IfOk result (λ left. holding tables.new left ≡ held_after (holding tables.old part) chunk.now) }
+{
     // Room enough that every byte of the chunk is taken.
     let mut out = [0u8; CHUNK * ROOM];
-    let fed = feed(tables, part, &chunk[..n], &mut out);
-    let all_used = fed.used == n;
-    prove!(all_used);
-    let written = fed.written;
-    match output.write_all(&out[..written]) {
-        Ok(()) => Some(fed.part),
-        Err(_) => None,
-    }
+    let fed = feed(tables, part, chunk, &mut out);
+    output.write_all(&out[..fed.written])?;
+    Ok(fed.part)
 }
 
-// A proved loop has to end, and nothing says that the input does: there are more turns than a run
-// uses up.
-fn serve(input: &mut impl Read, output: &impl Print, tables: &mut [u8]) {
+// The end of the input: a last line without a newline is answered.
+fn answer_end<W: Write>(output: &mut W, tables: &mut [u8], part: Part) -> io::Result<()>
+    ensures { OnOk result (Appends (W.contents output.old) (W.contents output.new) (written_over (holding tables.old part) (ending (held_in part)))) }
+{
+    let mut out = [0u8; ROOM];
+    let fed = finish(tables, part, &mut out);
+    output.write_all(&out[..fed.written])
+}
+
+// All that can be read is answered, as far as it can be written.
+fn serve<R: Read, W: Write>(input: &mut R, output: &mut W, tables: &mut [u8]) -> io::Result<()>
+    ensures { OnOk result (AllAnswered tables.old (R.remaining input.old) (R.remaining input.new) (W.contents output.old) (W.contents output.new)) }
+{
     let mut part = Part::new();
+    // A proved loop has to end, and nothing says that the input does: there are more turns than a
+    // run uses up.
     for _ in 0..u64::MAX {
-        let Some(left) = serve_some(input, output, tables, part) else {
-            return;
-        };
-        part = left;
+        let mut chunk = [0u8; CHUNK];
+        // A read that fails is the input's end.
+        let n = input.read(&mut chunk).unwrap_or(0);
+        if n == 0 {
+            break;
+        }
+        part = answer_chunk(output, tables, part, &chunk[..n])?;
     }
+    answer_end(output, tables, part)
 }
 
 fn main(rt: HostRuntime) {
     let mut tables = [0u8; SIZE];
     cottonsedge_boot(&mut tables);
-    serve(&mut rt.stdin(), &rt.stdout(), &mut tables);
+    // Nothing follows, so a failure changes nothing.
+    let _ = serve(&mut rt.stdin(), &mut rt.stdout(), &mut tables);
 }

@@ -1,5 +1,5 @@
 -- From boot on, the bench writes what the rules say of each line. Assumes nothing.
-use Prim.Native.Nat.{ℕ}
+use Prim.Native.Nat.{ℕ, ◌^◌, ◌<◌}
 use mathlib.Core.Path.{◌≡◌, refl, ◌∙◌}
 use mathlib.Core.List.{List, [], ◌∷◌}
 use lib.Dec.{eqb}
@@ -7,6 +7,7 @@ use lib.ListN.{length, take, drop}
 use mir.Syntax.{w32}
 use mir.Val.{SFits}
 use mir.ValLaws.{to_z-Fits}
+use Rattle.std.specs.Prelude.{Option, Some, None, IfSome}
 use Rattle.lists.proofs.Bools.{split}
 use Rattle.tables.specs.declared.Tables.{Tables}
 use Rattle.tables.specs.Boot.{boot}
@@ -23,14 +24,11 @@ use Rattle.cottonsedge.specs.Entries.{booted}
 use Rattle.cottonsedge.specs.Fields.{packed}
 use Rattle.cottonsedge.proofs.Calls.{back, call-bytes, call-packed}
 use Rattle.cottonsedge.proofs.Standing.{sound-good}
-use Rattle.lines.specs.declared.hex.Field.{Field}
-use Rattle.lines.specs.declared.hex.Field.TheVariants.{Value, Wrong}
-use Rattle.lines.specs.declared.line.Line.{Line}
-use Rattle.lines.specs.declared.line.Line.TheVariants.{Request, Wrong as WrongLine}
+use Rattle.lines.specs.declared.line.Request.{Request}
 use Rattle.lines.specs.Hex.{field_of}
-use Rattle.lines.specs.Line.{Below, line_length, line_of, request_of}
+use Rattle.lines.specs.Line.{line_length, line_of, request_of}
 use Rattle.lines.specs.Answers.{answer_to, tables_after}
-use Rattle.lines.proofs.HexLaws.{word-digits}
+use Rattle.lines.proofs.HexLaws.{field-below}
 use Rattle.feed.specs.Answers.{lines_of, answers_to, answers}
 use Rattle.feed.specs.Chunks.{start, Session, joined}
 use Rattle.feed.specs.Ruled.{outcome_of, ruled}
@@ -38,36 +36,39 @@ use Rattle.feed.proofs.Whole.{bench-answered}
 
 -- the arguments that a line names are signed numbers of 32 bits
 
-abbrev ArgumentsFit : Line → Type 0
-ArgumentsFit (Request n a b) = SFits w32 a × SFits w32 b
-ArgumentsFit WrongLine = Unit
+abbrev ArgumentsFit : Option Request → Type 0
+ArgumentsFit l = IfSome l (λ r. SFits w32 r.a × SFits w32 r.b)
 
-fields_fit : (n a b : Field) → Below 4294967296 a → Below 4294967296 b → ArgumentsFit (request_of n a b)
-fields_fit Wrong a b h k = tt
-fields_fit (Value n) Wrong b h k = tt
-fields_fit (Value n) (Value a) Wrong h k = tt
-fields_fit (Value n) (Value a) (Value b) h k = (to_z-Fits w32 a (record { fits = h }), to_z-Fits w32 b (record { fits = k }))
+abbrev IsWord : Option ℕ → Type 0
+IsWord field = IfSome field (λ v. v < 16 ^ 8)
+
+fields_fit : (n a b : Option ℕ) → IsWord a → IsWord b → ArgumentsFit (request_of n a b)
+fields_fit None a b h k = tt
+fields_fit (Some n) None b h k = tt
+fields_fit (Some n) (Some a) None h k = tt
+fields_fit (Some n) (Some a) (Some b) h k = (to_z-Fits w32 a (record { fits = h }), to_z-Fits w32 b (record { fits = k }))
 
 line-fits : (cs : List ℕ) → ArgumentsFit (line_of cs)
 unfolding line_of
 line-fits cs =
     split (eqb (length cs) line_length)
-    (λ e. rw e (fields_fit (field_of (take 2 cs)) (field_of (take 8 (drop 2 cs))) (field_of (take 8 (drop 10 cs))) (word-digits _) (word-digits _)))
+    (λ e. rw e (fields_fit (field_of (take 2 cs)) (field_of (take 8 (drop 2 cs))) (field_of (take 8 (drop 10 cs))) (field-below 8 _ (λ h. h)) (field-below 8 _ (λ h. h))))
     (λ e. rw e tt)
 
 -- one line on the bytes of sound tables whose counts fit
 
-record Goes (t : Tables) (l : Line) : Type 0 where
+record Goes (t : Tables) (l : Option Request) : Type 0 where
   told : answer_to (to_bytes t) l ≡ packed (outcome_of t l).answer (current_of (outcome_of t l).tables)
   left : tables_after (to_bytes t) l ≡ to_bytes (outcome_of t l).tables
   sound : Sound (outcome_of t l).tables
   fits : CountsFit (outcome_of t l).tables
 
 module _ {t : Tables} (S : Sound t) (F : CountsFit t) where
-  goes : (l : Line) → ArgumentsFit l → Goes t l
+  goes : (l : Option Request) → ArgumentsFit l → Goes t l
   unfolding current_byte
-  goes (Request n a b) (fa, fb) = record { told = call-packed S F n a b; left = call-bytes S F n a b; sound = sound-numbered S n a b; fits = (fits-numbered S F n a b fa fb).0 }
-  goes WrongLine k = record { told = rw (sound-good S F, back S F); left = refl; sound = S; fits = F }
+  goes (Some r) (fa, fb) =
+      record { told = call-packed S F r.number r.a r.b; left = call-bytes S F r.number r.a r.b; sound = sound-numbered S r.number r.a r.b; fits = (fits-numbered S F r.number r.a r.b fa fb).0 }
+  goes None k = record { told = rw (sound-good S F, back S F); left = refl; sound = S; fits = F }
 
 -- all lines
 

@@ -2,5 +2,4 @@ pub mod Examples
 pub mod FeedLaws
 pub mod FromBoot
 pub mod PaperSession
-pub mod ServingLaws
 pub mod Whole

@@ -10,7 +10,7 @@ use Rattle.layout.specs.Bytes.{to_bytes}
 use Rattle.rules.specs.Schedule.{joining, make_all_ready, start_first, switch, reschedule}
 use Rattle.rules.specs.Calls.{step}
 use Rattle.rules.specs.Enter.{numbered}
-use Rattle.lines.specs.Hex.{digit_of, read_on, field_of, letter_of, written}
+use Rattle.lines.specs.Hex.{digit_of, read_on, field_of, written}
 use Rattle.lines.specs.Line.{line_length, line_of}
 use Rattle.lines.specs.Answers.{newline, text_of}
 use Rattle.feed.specs.Answers.{lines_of, answers}
@@ -59,7 +59,7 @@ output =
     )
 
 by-rules : ruled boot (lines_of input) ≡ output
-unfolding ruled lines_of input output typed printed line_of field_of read_on digit_of text_of written letter_of numbered step boot filter take_out put_before place times is_empty first_or listed round_from line joining make_all_ready start_first switch reschedule
+unfolding ruled lines_of input output typed printed line_of field_of read_on digit_of text_of written numbered step boot filter take_out put_before place times is_empty first_or listed round_from line joining make_all_ready start_first switch reschedule
 by-rules = refl
 
 pub paper-session : answers (to_bytes boot) input ≡ output

@@ -7,8 +7,8 @@ use mathlib.Core.Path.{◌≡◌, refl, sym, ap, ◌∙◌}
 use mathlib.Core.Bool.{false}
 use mathlib.Core.List.{List, [], ◌∷◌, ◌++◌, append-nil, append_assoc}
 use lib.Dec.{eqb}
-use lib.ListN.{length, take, drop, length-append, length-take}
-use lib.Seq.{take_all, take-append-le, append_snoc, take_at}
+use lib.ListN.{length, take, length-take}
+use lib.Seq.{take_all, take-append-le, append_snoc}
 use borrow.Author.Tests.{eqb-true, ne_eqb}
 use Rattle.lists.specs.Lists.{is_empty}
 use Rattle.lists.proofs.Bools.{split, below?}
@@ -18,10 +18,10 @@ use Rattle.layout.specs.Bytes.{to_bytes}
 use Rattle.cottonsedge.specs.Entries.{booted}
 use Rattle.cottonsedge.proofs.BootBytes.{boot-bytes}
 use Rattle.lines.specs.Line.{line_of}
-use Rattle.lines.specs.Answers.{newline, answer_to, tables_after, text_of, over}
-use Rattle.feed.specs.declared.feed.Fed.{Fed}
+use Rattle.lines.specs.Answers.{newline, answer_to, tables_after, text_of}
 use Rattle.feed.specs.Answers.{before, lines_of, answers_to, answers}
-use Rattle.feed.specs.Feed.{Held, kept, held_next, held_after, written_next, written_over, ending, Serves, Counts}
+use Rattle.feed.specs.Feed.{Held, kept, held_next, held_after, written_next, written_over, ending}
+use Rattle.feed.proofs.FeedLaws.{held-append, written-append, front-written}
 use Rattle.feed.specs.Chunks.{start, Session, finished, fed-first, joined}
 
 -- some characters before the first of some lines
@@ -92,7 +92,7 @@ module _ (bytes line : List ℕ) where
     more-written = rw n
 
 -- what is written from h on, to the end of the input
-abbrev whole : Held → List ℕ → List ℕ
+abbrev pub whole : Held → List ℕ → List ℕ
 whole h cs = written_over h cs ++ written_over (held_after h cs) (ending (held_after h cs).line)
 
 whole-none : (h : Held) → written_over h (ending h.line) ≡ whole h []
@@ -114,27 +114,12 @@ whole-answers bytes line (c ∷ cs) =
     rw (e, eqb-true c newline e, ended_held bytes line, ended-written bytes line, on, begun-none (lines_of cs), append-nil line))
     (λ e. rw (e, more-held bytes line c e, more-written bytes line c e, whole-answers bytes (line ++ c ∷ []) cs, begun_more line c (lines_of cs)))
 
+-- from the start of an input to its end
+pub whole-start : (bytes cs : List ℕ) → whole (start bytes) cs ≡ answers bytes cs
+unfolding answers
+whole-start bytes cs = whole-answers bytes [] cs ∙ ap (answers_to bytes) (begun-none (lines_of cs))
+
 -- chunks
-
-held-append : (h : Held) (a b : List ℕ) → held_after h (a ++ b) ≡ held_after (held_after h a) b
-unfolding held_after
-held-append h [] b = refl
-held-append h (c ∷ cs) b = held-append (held_next h c) cs b
-
-written-append : (h : Held) (a b : List ℕ) → written_over h (a ++ b) ≡ written_over h a ++ written_over (held_after h a) b
-unfolding written_over held_after
-written-append h [] b = refl
-written-append h (c ∷ cs) b = rw (written-append (held_next h c) cs b) (sym (append_assoc (written_next h c) (written_over (held_next h c) cs) _))
-
--- what a call writes is the front of its buffer
-pub front-written : {h : Held} {cs tables : List ℕ} {fed : Fed} {before after : List ℕ} → Serves h cs tables fed before after → take fed.written after ≡ written_over h cs
-unfolding over
-front-written {h} {cs} one = rw (one.written_is, one.out-is) (take_at (written_over h cs) _ _ refl)
-
-pub front-counts : {h : Held} {cs tables : List ℕ} {fed : Fed} {before after : List ℕ} → Serves h cs tables fed before after → Counts fed.written after
-unfolding over
-front-counts {h} {cs} {before = before} one =
-    (rw (one.written_is, one.out-is, length-append (written_over h cs) (drop (length (written_over h cs)) before)) (omega arith), one.written_is ∙ ap length (sym (front-written one)))
 
 session-whole : {h : Held} {chunks : List (List ℕ)} {out : List ℕ} → Session h chunks out → out ≡ whole h (joined chunks)
 unfolding joined
@@ -145,9 +130,7 @@ session-whole {h} (fed-first {chunk = a} {chunks = chunks} one later) =
 
 -- however the input is cut, all that is written is the answers to its lines
 pub session-answered : {bytes : List ℕ} {chunks : List (List ℕ)} {out : List ℕ} → Session (start bytes) chunks out → out ≡ answers bytes (joined chunks)
-unfolding answers
-session-answered {bytes} {chunks} session =
-    session-whole session ∙ whole-answers bytes [] (joined chunks) ∙ ap (answers_to bytes) (begun-none (lines_of (joined chunks)))
+session-answered {bytes} {chunks} session = session-whole session ∙ whole-start bytes (joined chunks)
 
 -- the bench: begun with what `cottonsedge_boot` writes, its whole output is the answers to its whole input from the boot tables on
 pub bench-answered : (bytes : List ℕ) {chunks : List (List ℕ)} {out : List ℕ} → length bytes ≡ size → Session (start (booted bytes)) chunks out → out ≡ answers (to_bytes boot) (joined chunks)

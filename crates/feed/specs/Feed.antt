@@ -12,7 +12,7 @@ pub record Held : Type 0 where
   pub line : List ℕ
 
 abbrev pub held_in : Part → List ℕ
-held_in part = take part.count part.bytes
+held_in part = part.line.items
 
 abbrev pub holding : List ℕ → Part → Held
 holding bytes part = record { tables = bytes; line = held_in part }
@@ -53,6 +53,10 @@ pub record Serves (h : Held) (cs tables : List ℕ) (fed : Fed) (before after : 
   pub used-is : fed.used ≡ length cs
   pub written_is : fed.written ≡ length (written_over h cs)
   pub out-is : after ≡ over (written_over h cs) before
+
+-- the same of all that is given, by the line that is left and how much was written
+abbrev pub ServesAll : Held → List ℕ → List ℕ → Part → ℕ → List ℕ → List ℕ → Type 0
+ServesAll h cs tables part written before after = Serves h cs tables (record { part = part; used = length cs; written = written }) before after
 
 -- n counts bytes at the start of xs: the two facts that a part `&xs[..n]` asks for
 abbrev pub Counts : ℕ → List ℕ → Type 0

@@ -1,9 +1,10 @@
 // The input in chunks that may break a line anywhere, in bounded memory.
-ghost use Rattle.std.specs.Prelude.{◌≡◌, ◌*◌, ◌≤◌, min, [], ◌∷◌, length};
+ghost use Rattle.std.specs.Prelude.{◌≡◌, ◌*◌, ◌≤◌, [], ◌∷◌, length};
 ghost use Rattle.lines.specs.Answers.{answer_length, newline};
-ghost use Rattle.feed.specs.Feed.{held_in, holding, kept, ending, taken, Serves, Counts};
+ghost use Rattle.feed.specs.Feed.{held_in, holding, kept, ending, taken, Serves, ServesAll, Counts};
 
-use lines::answer::{ANSWER, answer_line, write_answer};
+use arrayvec::ArrayVec;
+use lines::answer::{ANSWER, answer_line, answer_text};
 use lines::line::LINE;
 
 // One character more than a right line has, so that a longer one is known.
@@ -13,24 +14,17 @@ const HELD: usize = LINE + 1;
 pub const ROOM: usize = ANSWER;
 
 // The start of the line that is not ended yet.
-#[derive(Clone, Copy)]
+#[derive(Clone, Drop)]
 pub struct Part {
-    bytes: [u8; HELD],
-    count: usize,
+    line: ArrayVec<u8, HELD>,
 }
 
-// What a feed took of its chunk and wrote of its buffer, and the line that is left.
-#[derive(Clone, Copy)]
+// What a feed took of its chunk and wrote of its buffer, and the line that is left: `feed` and `finish`, which docs name, tell lengths, since what is written stands in the buffer that they were lent.
+#[derive(Clone, Drop)]
 pub struct Fed {
     pub part: Part,
     pub used: usize,
     pub written: usize,
-}
-
-fn least(a: usize, b: usize) -> usize
-    ensures { result ≡ min a b }
-{
-    if a < b { a } else { b }
 }
 
 impl Part {
@@ -38,79 +32,51 @@ impl Part {
         ensures { held_in result ≡ [] }
     {
         Part {
-            bytes: [0u8; HELD],
-            count: 0,
+            line: ArrayVec::new(),
         }
     }
 
-    // With one character more, where there is place for it.
-    fn with(self, c: u8) -> Self
-        ensures { held_in result ≡ kept (held_in self) c }
+    // One character more, where there is place for it.
+    fn push(&mut self, c: u8)
+        ensures { held_in self.new ≡ kept (held_in self.old) c }
     {
-        let count = self.count;
-        if count < HELD {
-            let mut bytes = self.bytes;
-            bytes[count] = c;
-            return Part {
-                bytes,
-                count: count + 1,
-            };
-        }
-        self
+        let _ = self.line.try_push(c);
     }
 }
 
 // The line that is held, ended, and its answer over the front of `out`.
-fn end_line(tables: &mut [u8], part: Part, out: &mut [u8]) -> Fed
+fn end_line(tables: &mut [u8], part: &mut Part, out: &mut [u8]) -> usize
     requires { answer_length ≤ length out.old }
-    ensures { Serves (holding tables.old part) (newline ∷ []) tables.new result out.old out.new }
+    ensures { ServesAll (holding tables.old part.old) (newline ∷ []) tables.new part.new result out.old out.new }
 {
-    let bytes = part.bytes;
-    let count = least(part.count, HELD);
-    let answer = answer_line(tables, &bytes[..count]);
-    write_answer(out, answer);
-    let empty = Part::new();
-    Fed {
-        part: empty,
-        used: 1,
-        written: ANSWER,
-    }
+    let answer = answer_line(tables, &part.line);
+    out[..ANSWER].copy_from_slice(&answer_text(answer));
+    *part = Part::new();
+    ANSWER
 }
 
-fn feed_one(tables: &mut [u8], part: Part, c: u8, out: &mut [u8]) -> Fed
+// How much was written, here and of more than one character.
+fn feed_one(tables: &mut [u8], part: &mut Part, c: u8, out: &mut [u8]) -> usize
     requires { answer_length ≤ length out.old }
-    ensures { Serves (holding tables.old part) (c ∷ []) tables.new result out.old out.new }
+    ensures { ServesAll (holding tables.old part.old) (c ∷ []) tables.new part.new result out.old out.new }
 {
     if c == b'\n' {
         return end_line(tables, part, out);
     }
-    let longer = part.with(c);
-    Fed {
-        part: longer,
-        used: 1,
-        written: 0,
-    }
+    part.push(c);
+    0
 }
 
 // A chunk for which `out` has room.
-fn feed_all(tables: &mut [u8], part: Part, chunk: &[u8], out: &mut [u8]) -> Fed
+fn feed_all(tables: &mut [u8], part: &mut Part, chunk: &[u8], out: &mut [u8]) -> usize
     requires { answer_length * length chunk.now ≤ length out.old }
-    ensures { Serves (holding tables.old part) chunk.now tables.new result out.old out.new }
+    ensures { ServesAll (holding tables.old part.old) chunk.now tables.new part.new result out.old out.new }
 {
-    let mut held = part;
-    let mut at: usize = 0;
-    let mut i: usize = 0;
-    while i < chunk.len() {
-        let fed = feed_one(tables, held, chunk[i], &mut out[at..]);
-        held = fed.part;
-        at += fed.written;
-        i += 1;
+    let mut written = 0;
+    for &c in chunk {
+        written += feed_one(tables, part, c, &mut out[written..]);
     }
-    Fed {
-        part: held,
-        used: i,
-        written: at,
-    }
+    written
 }
 
 // As much of the chunk as `out` has room for.
@@ -118,8 +84,14 @@ pub fn feed(tables: &mut [u8], part: Part, chunk: &[u8], out: &mut [u8]) -> Fed
     ensures serves { Serves (holding tables.old part) (taken chunk.now out.old) tables.new result out.old out.new }
     ensures within { Counts result.written out.new }
 {
-    let used = least(out.len() / ROOM, chunk.len());
-    feed_all(tables, part, &chunk[..used], out)
+    let used = (out.len() / ROOM).min(chunk.len());
+    let mut part = part;
+    let written = feed_all(tables, &mut part, &chunk[..used], out);
+    Fed {
+        part,
+        used,
+        written,
+    }
 }
 
 // The end of the input: a line that was begun ends as at a newline.
@@ -127,7 +99,6 @@ pub fn finish(tables: &mut [u8], part: Part, out: &mut [u8]) -> Fed
     ensures serves { Serves (holding tables.old part) (taken (ending (held_in part)) out.old) tables.new result out.old out.new }
     ensures within { Counts result.written out.new }
 {
-    let end = [b'\n'];
-    let n = least(part.count, 1);
-    feed(tables, part, &end[..n], out)
+    let end: &[u8] = if part.line.is_empty() { &[] } else { b"\n" };
+    feed(tables, part, end, out)
 }

@@ -1,78 +1,59 @@
 -- Laws of hexadecimal digits. Assumes nothing.
-use Prim.Native.Nat.{ℕ, suc, ◌+◌, ◌*◌, ◌^◌, ◌≤◌, ◌<◌}
+use Prim.Native.Nat.{ℕ, ◌+◌, ◌*◌, ◌^◌, ◌≤◌, ◌<◌}
 use native.Mathlib.Numerals.{add-one}
 use native.Mathlib.Omega.{arith}
 use native.Mathlib.Nat.{pow-suc, pow-le-pow_right}
 use mathlib.Core.Path.{◌≡◌}
-use mathlib.Core.Bool.{true}
 use mathlib.Core.List.{List, [], ◌∷◌}
 use lib.Dec.{leb, ltb}
 use lib.ListN.{length, drop, get_or, drop_of_length-le}
 use lib.Seq.{drop-cons}
-use borrow.Author.Tests.{leb-true, le-leb, ltb-true, lt-ltb, le-ltb}
-use Rattle.lists.proofs.Bools.{both, split}
-use Rattle.lines.specs.Hex.{between, digit_of, read_on, field_of}
-use Rattle.lines.specs.Line.{Below}
-use Rattle.lines.specs.declared.hex.Field.{Field}
-use Rattle.lines.specs.declared.hex.Field.TheVariants.{Value, Wrong}
+use borrow.Author.Tests.{leb-true, ltb-true}
+use Rattle.std.specs.Prelude.{if◌then◌else◌, Option, Some, None, IfSome, SomeIff, option_and_then}
+use Rattle.std.specs.Char.{digit_value}
+use Rattle.std.proofs.lemmas.Bool.Decides.{nat_tests}
+use Rattle.lists.proofs.Bools.{split, below?}
+use Rattle.lines.specs.Hex.{digit_of, read_on, field_of}
 
-pub between-low : (low high c : ℕ) → between low high c ≡ true → low ≤ c
-between-low low high c h = leb-true low c (both (leb low c) (leb c high) h).0
+-- the library reads a digit as the definition does
+digit_same : (c : ℕ) → digit_of c ≡ (if ltb (digit_value c) 16 then Some (digit_value c) else None)
+unfolding digit_of
+digit_same c =
+    below? c 65 (λ h. grind (arith, nat_tests)) (λ h. grind (arith, nat_tests))
+
+digit_read : (c : ℕ) (d : Option ℕ) → SomeIff d (digit_value c < 16) (digit_value c) → d ≡ digit_of c
+digit_read c None h = rw digit_same (grind (arith, nat_tests))
+digit_read c (Some d) h = rw digit_same (grind (arith, nat_tests))
+
+digit_small : (c : ℕ) → IfSome (digit_of c) (λ d. d < 16)
+digit_small c = rw digit_same (split (ltb (digit_value c) 16) (λ e. rw e (ltb-true _ _ e)) (λ e. rw e tt))
 
 -- one digit more
 pub digit-more : (n d i : ℕ) → n < 16 ^ i → d < 16 → n * 16 + d < 16 ^ (i + 1)
 digit-more n d i h k = rw (add-one, pow-suc) (omega arith)
 
--- eight digits make 32 bits
-pub digits-fit : (n d i : ℕ) → n < 16 ^ i → d < 16 → i < 8 → n * 16 + d < 4294967296
-digits-fit n d i h k l =
-    let more = digit-more n d i h k in
-    let within : i + 1 ≤ 8 = omega arith in
-    let top : 16 ^ (i + 1) ≤ 16 ^ 8 = pow-le-pow_right (omega arith) within in
-    omega arith
-
--- the digit at i read, or refused, and the end
-module _ (n : ℕ) (cs : List ℕ) (i : ℕ) where
-  pub read-digit : i < length cs → digit_of (get_or cs i 0) < 16 → read_on (n * 16 + digit_of (get_or cs i 0)) (drop (i + 1) cs) ≡ read_on n (drop i cs)
-  unfolding read_on
-  read-digit h k = rw (add-one, drop-cons cs i 0 h, lt-ltb (digit_of (get_or cs i 0)) 16 k)
-
-  pub no_digit : i < length cs → 16 ≤ digit_of (get_or cs i 0) → read_on n (drop i cs) ≡ Wrong
-  unfolding read_on
-  no_digit h k = rw (drop-cons cs i 0 h, le-ltb (digit_of (get_or cs i 0)) 16 k)
-
-  pub read-end : length cs ≤ i → read_on n (drop i cs) ≡ Value n
-  unfolding read_on
-  read-end h = rw (drop_of_length-le cs h)
-
--- a field that was read has no more digits than characters
-below_more : (n i : ℕ) (cs : List ℕ) → n < 16 ^ i → Below (16 ^ (i + length cs)) (read_on n cs)
+-- the digit d at i, or none, as the library reads it
+pub read-next : (n : ℕ) (cs : List ℕ) (i : ℕ) (d : Option ℕ) → i < length cs → SomeIff d (digit_value (get_or cs i 0) < 16) (digit_value (get_or cs i 0)) →
+    option_and_then (λ x. read_on (n * 16 + x) (drop (i + 1) cs)) d ≡ read_on n (drop i cs)
 unfolding read_on
-below_more n i [] h = let e : i + 0 ≡ i = omega arith in rw e h
-below_more n i (c ∷ cs) h =
-    let e : i + suc (length cs) ≡ i + 1 + length cs = omega arith in
-    let on = below_more (n * 16 + digit_of c) (i + 1) cs in
-    split (ltb (digit_of c) 16)
-    (λ k. rw (k, e) (on (digit-more n (digit_of c) i h (ltb-true (digit_of c) 16 k))))
-    (λ k. rw k tt)
+read-next n cs i d h k = rw (add-one, drop-cons cs i 0 h, digit_read (get_or cs i 0) d k)
 
--- two digits make a byte
-pub two_digits : (cs : List ℕ) → length cs ≡ 2 → Below 256 (field_of cs)
+-- and the end
+pub read-end : (n : ℕ) (cs : List ℕ) (i : ℕ) → length cs ≤ i → read_on n (drop i cs) ≡ Some n
+unfolding read_on
+read-end n cs i h = rw (drop_of_length-le cs h)
+
+-- a number below 16 ^ i, and what is read on behind it
+below_more : (n i k : ℕ) (cs : List ℕ) → n < 16 ^ i → i + length cs ≤ k → IfSome (read_on n cs) (λ v. v < 16 ^ k)
+unfolding read_on
+below_more n i k [] h l = let top : 16 ^ i ≤ 16 ^ k = pow-le-pow_right (omega arith) (omega arith) in omega arith
+below_more n i k (c ∷ cs) h l =
+    elim (digit_of c) as (λ o. IfSome o (λ d. d < 16) → IfSome (option_and_then (λ d. read_on (n * 16 + d) cs) o) (λ v. v < 16 ^ k)) [
+      | None ↦ λ small. tt
+      | Some d ↦ λ small. below_more (n * 16 + d) (i + 1) k cs (digit-more n d i h small) (omega arith)
+    ] (digit_small c)
+
+-- a field of at most k digits is below 16 ^ k
+pub field-below : (k : ℕ) (cs : List ℕ) → (length cs ≤ 8 → length cs ≤ k) → IfSome (field_of cs) (λ v. v < 16 ^ k)
 unfolding field_of
-two_digits cs e = rw (le-leb (length cs) 8 (omega arith)) (let b : Below (16 ^ (0 + length cs)) (read_on 0 cs) = below_more 0 0 cs (omega arith) in rw e at b)
-
-below_wider : (f : Field) (m n : ℕ) → m ≤ n → Below m f → Below n f
-below_wider (Value v) m n h k = omega arith
-below_wider Wrong m n h k = tt
-
--- and a field fits a word
-pub word-digits : (cs : List ℕ) → Below 4294967296 (field_of cs)
-unfolding field_of
-word-digits cs =
-    split (leb (length cs) 8)
-    (λ e.
-    let short = leb-true (length cs) 8 e in
-    let within : 0 + length cs ≤ 8 = omega arith in
-    let top : 16 ^ (0 + length cs) ≤ 16 ^ 8 = pow-le-pow_right (omega arith) within in
-    rw e (below_wider (read_on 0 cs) (16 ^ (0 + length cs)) (16 ^ 8) top (below_more 0 0 cs (omega arith))))
-    (λ e. rw e tt)
+field-below k cs h = split (leb (length cs) 8) (λ e. let within = h (leb-true (length cs) 8 e) in rw e (below_more 0 0 k cs (omega arith) (omega arith))) (λ e. rw e tt)

@@ -1,9 +1,8 @@
 // A line of the input, without its newline, as a call.
 ghost use Rattle.std.specs.Prelude.{◌≡◌};
-ghost use Rattle.lines.specs.Line.{Below, line_of, request_of};
+ghost use Rattle.lines.specs.Line.{line_of};
 
-use crate::hex::{Field, WIDTH, read_field};
-use layout::word::signed;
+use crate::hex::{WIDTH, read_field};
 
 // The digits of the call, and of a line: behind the call come two arguments.
 const CALL: usize = 2;
@@ -12,39 +11,24 @@ const SECOND: usize = CALL + WIDTH;
 
 pub const LINE: usize = SECOND + WIDTH;
 
+// A call by its number, and its two arguments.
 #[derive(Clone, Copy)]
-pub enum Line {
-    // The call's number and its two arguments.
-    Request(u8, i32, i32),
-    Wrong,
+pub struct Request {
+    pub number: u8,
+    pub a: i32,
+    pub b: i32,
 }
 
-fn request(call: Field, a: Field, b: Field) -> Line
-    requires { Below 256 call }
-    ensures { result ≡ request_of call a b }
-{
-    let Field::Value(n) = call else {
-        return Line::Wrong;
-    };
-    let Field::Value(x) = a else {
-        return Line::Wrong;
-    };
-    let Field::Value(y) = b else {
-        return Line::Wrong;
-    };
-    Line::Request(n as u8, signed(x), signed(y))
-}
-
-pub fn read_line(line: &[u8]) -> Line
+pub fn read_line(line: &[u8]) -> Option<Request>
     ensures { result ≡ line_of line.now }
 {
-    if line.len() == LINE {
-        request(
-            read_field(&line[..CALL]),
-            read_field(&line[CALL..SECOND]),
-            read_field(&line[SECOND..LINE]),
-        )
-    } else {
-        Line::Wrong
-    }
+    let digits = line.as_array::<LINE>()?;
+    let number = read_field(&digits[..CALL])?;
+    let a = read_field(&digits[CALL..SECOND])?;
+    let b = read_field(&digits[SECOND..])?;
+    Some(Request {
+        number: number as u8,
+        a: a.cast_signed(),
+        b: b.cast_signed(),
+    })
 }

@@ -6,11 +6,12 @@ ghost use Rattle.rules.specs.Enter.{enter};
 
 use cottonsedge::answer::pack;
 use cottonsedge::value::call;
-use lines::answer::{ANSWER, write_answer};
+use lines::answer::answer_text;
 use rules::Answer;
 use std::io::Print;
 use tables::Tables;
 
+// By number and not by `rules::Call`: `call` (docs/PROMISES.md) takes the paper's number, of a call or of none.
 const WAIT: u8 = 1;
 
 const SIGNAL: u8 = 2;
@@ -25,9 +26,7 @@ const COUNT: u8 = 11;
 
 // The answer as the bench prints it; the calls go on where nothing can be printed.
 fn print(rt: &impl Print, answer: Answer, running: u8) {
-    let mut text = [0u8; ANSWER];
-    write_answer(&mut text, pack(answer, running as u16));
-    let _ = rt.write_all(&text);
+    let _ = rt.write_all(&answer_text(pack(answer, running.into())));
 }
 
 // One call and its answer printed; the tables after it.
@@ -35,25 +34,27 @@ fn after(rt: &impl Print, tables: Tables, number: u8, a: i32) -> Tables
     ensures { result ≡ (enter tables number a (pos 0)).outcome.tables }
 {
     let reply = call(tables, number, a, 0);
-    let outcome = reply.outcome;
-    let answer = outcome.answer;
-    print(rt, answer, reply.running);
-    outcome.tables
+    print(rt, reply.outcome.answer, reply.running);
+    reply.outcome.tables
 }
 
 fn main(rt: HostRuntime) {
     let mut tables = Tables::boot();
-    tables = after(&rt, tables, MAKE_PROCESS, 20);
-    tables = after(&rt, tables, RESUME, 1);
-    tables = after(&rt, tables, MAKE_SEMAPHORE, 0);
-    tables = after(&rt, tables, MAKE_PROCESS, 20);
-    tables = after(&rt, tables, RESUME, 2);
-    // Process 2 waits, and process 1 runs.
-    tables = after(&rt, tables, WAIT, 0);
-    tables = after(&rt, tables, COUNT, 0);
-    // It is released, and its equal gives way.
-    tables = after(&rt, tables, SIGNAL, 0);
-    // A semaphore that isn't used, and one that isn't there.
-    tables = after(&rt, tables, WAIT, 5);
-    after(&rt, tables, WAIT, Tables::SEMAPHORES as i32);
+    for (number, a) in [
+        (MAKE_PROCESS, 20),
+        (RESUME, 1),
+        (MAKE_SEMAPHORE, 0),
+        (MAKE_PROCESS, 20),
+        (RESUME, 2),
+        // Process 2 waits, and process 1 runs.
+        (WAIT, 0),
+        (COUNT, 0),
+        // It is released, and its equal gives way.
+        (SIGNAL, 0),
+        // A semaphore that isn't used, and one that isn't there.
+        (WAIT, 5),
+        (WAIT, Tables::SEMAPHORES as i32),
+    ] {
+        tables = after(&rt, tables, number, a);
+    }
 }

@@ -1,40 +1,17 @@
--- What stands after i characters is kept by the next; see ServingLaws. Assumes nothing.
-use native.Mathlib.Omega.{arith}
-use mathlib.Core.Path.{refl, ◌∙◌}
-use Rattle.feed.proofs.ServingLaws.{serving-start, space-lent, serving-next, serving-end}
+-- What was served of the chunk leaves room for the rest, and goes on by a character. Assumes nothing.
+use Rattle.std.proofs.Common.{arith}
+use Rattle.feed.proofs.FeedLaws.{serves-none, served-room, serves-next}
 use Rattle.feed.proofs.feed.feed_all.Goals as goal
 
-pub loop-i-init : goal.loop-i-init
-loop-i-init c = (c.requires, refl, serving-start _ _ _)
+pub loop-c-init : goal.loop-c-init
+loop-c-init c = record { room = omega arith; served = serves-none c.args.tables.now c.args.part.now c.args.out.now }
 
-pub feed_one-fed-requires : goal.feed_one-fed-requires
-feed_one-fed-requires c =
-    space-lent c.loop-i.invariant.2 c.loop-i.invariant.0 c.loop-i-test.true
+pub overflow_add-written : goal.overflow_add-written
+overflow_add-written c = omega (arith, served-room _ c.feed_one-written.ensures)
 
--- no places by `let` here: `omega` would read them too, and it enters only so many
-pub overflow_add-at : goal.overflow_add-at
-overflow_add-at c =
-    omega (
-      arith,
-      (serving-next
-          c.loop-i.invariant.2
-          c.loop-i.invariant.0
-          c.loop-i-test.true
-          _ _ _
-          c.feed_one-fed.ensures
-          ).room,
-    )
-
-pub loop-i-preserved : goal.loop-i-preserved
-loop-i-preserved c =
-    let next = serving-next c.loop-i.invariant.2 c.loop-i.invariant.0 c.loop-i-test.true _ _ _ c.feed_one-fed.ensures in
-    (c.loop-i.invariant.0, c.feed_one-fed.auto.tables ∙ c.loop-i.invariant.1, next)
-
-pub shape_of-tables : goal.shape_of-tables
-shape_of-tables c = c.loop-i.invariant.1
-
-pub shape_of-out : goal.shape_of-out
-shape_of-out c = c.loop-i.invariant.2.long
-
-pub returns : goal.returns
-returns c = serving-end c.loop-i.invariant.2 c.loop-i.invariant.0 _ _ refl c.loop-i-test.false
+pub loop-c-preserved : goal.loop-c-preserved
+loop-c-preserved c =
+    record {
+      room = omega (arith, served-room _ c.feed_one-written.ensures);
+      served = serves-next c.args.chunk.now c.loop-c.c-index c.loop-c-test.true (omega arith) c.loop-c.invariant.served c.feed_one-written.ensures;
+    }

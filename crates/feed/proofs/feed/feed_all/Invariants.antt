@@ -1,13 +1,10 @@
-use Prim.Native.Nat.{◌-◌, ◌*◌, ◌≤◌}
-use mathlib.Core.Path.{◌≡◌}
-use lib.ListN.{length}
+use Rattle.std.proofs.Common.{take, ◌≤◌, ◌*◌}
 use Rattle.lines.specs.Answers.{answer_length}
-use Rattle.feed.specs.Feed.{holding}
-use Rattle.feed.proofs.ServingLaws.{Serving}
+use Rattle.feed.specs.Feed.{holding, ServesAll}
 use Rattle.feed.proofs.feed.feed_all.Given as goal
 
-abbrev pub invariant-loop-i : goal.invariant-loop-i
-invariant-loop-i l = (answer_length * length l.chunk ≤ length l.initial.out) × (length l.tables ≡ length l.initial.tables) × Serving (holding l.initial.tables l.initial.held) l.chunk l.initial.out (holding l.tables l.held) l.out l.at l.i
-
-abbrev pub decreases-loop-i : goal.decreases-loop-i
-decreases-loop-i l = length l.chunk - l.i
+abbrev pub invariant-loop-c : goal.invariant-loop-c
+invariant-loop-c l = record {
+  room : l.written ≤ answer_length * l.c-index;
+  served : ServesAll (holding l.initial.tables l.initial.part) (take l.c-index l.chunk) l.tables l.part l.written l.initial.out l.out;
+}
