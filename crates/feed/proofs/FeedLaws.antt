@@ -1,33 +1,37 @@
 -- Laws of what is held and written, character by character. Assumes nothing.
 use Prim.Native.Nat.{ℕ, suc, ◌+◌, ◌-◌, ◌*◌, ◌/◌, ◌≤◌, ◌<◌}
 use native.Mathlib.Nat.{le-div_iff_mul-le}
+use native.Mathlib.Numerals.{add-one}
 use native.Mathlib.Omega.{arith}
 use mathlib.Core.Path.{◌≡◌, refl, sym, ap, ◌∙◌}
 use mathlib.Core.Bool.{false}
 use mathlib.Core.List.{List, [], ◌∷◌, ◌++◌, append-nil, append_assoc}
 use lib.Dec.{eqb}
-use lib.ListN.{length, take, drop, get_or, length-drop, drop_of_length-le, length-append}
-use lib.Seq.{take_all, take-append-le, take_at, drop_at, drop-drop}
+use lib.ListN.{length, take, drop, get_or, set, length-take, length-drop, drop_of_length-le, length-append}
+use lib.Seq.{take_all, take-append-le, take-suc-set, take_at, drop_at, drop-drop}
 use borrow.Author.Tests.{ne_eqb}
 use borrow.Rule.Slice.PartMut.{mid_of, put_mid}
-use Rattle.std.specs.Prelude.{if◌then◌else◌, Result, Ok, Err, IsOk, OnOk, OnErr, ◌↔◌}
+use Rattle.std.specs.Prelude.{if◌then◌else◌}
 use Rattle.std.proofs.lemmas.List.{take_more}
 use Rattle.lists.proofs.Bools.{split}
-use Rattle.arrayvec.specs.ArrayVec.{ArrayVec, array_vec_len}
 use Rattle.lists.specs.Lists.{is_empty}
 use Rattle.lines.specs.Line.{line_of}
 use Rattle.lines.specs.Answers.{answer_length, newline, answer_to, tables_after, text_of, over}
 use Rattle.lines.proofs.AnswerLaws.{text-length}
-use Rattle.feed.specs.declared.feed.Part.{Part}
+use Rattle.feed.specs.declared.part.Part.{Part}
 use Rattle.feed.specs.declared.feed.Fed.{Fed}
 use Rattle.feed.specs.Feed.{Held, holding, held_in, kept, held_next, held_after, written_next, written_over, ending, taken, Serves, ServesAll, Counts}
 
--- a character more, where one fits
-pub pushed : (line after : ArrayVec ℕ) (c : ℕ) {T E : Type 0} (r : Result T E) → (IsOk r ↔ (array_vec_len line < 19)) → OnOk r (after.items ≡ line.items ++ c ∷ []) → OnErr r (after ≡ line) → OnErr r (array_vec_len line ≡ 19) →
-    after.items ≡ kept line.items c
-unfolding kept
-pushed line after c (Ok x) fits more same full = rw more (sym (take_all 19 (line.items ++ c ∷ []) (simp length-append (omega (arith, fits.0 refl)))))
-pushed line after c (Err e) fits more same full = rw (same, take-append-le 19 line.items (c ∷ []) (omega arith), take_all 19 line.items (omega arith))
+-- a character more, where there is place for it, and where there is none
+
+module _ (bytes : List ℕ) (count c : ℕ) (long : length bytes ≡ 19) where
+  pub held_more : count < 19 → take (count + 1) (set bytes count c) ≡ kept (take count bytes) c
+  unfolding kept
+  held_more h = rw (add-one count, take-suc-set bytes count c (omega arith)) (sym (take_all 19 _ (simp (length-append, length-take) (omega arith))))
+
+  pub held-full : 19 ≤ count → take count bytes ≡ kept (take count bytes) c
+  unfolding kept
+  held-full h = rw (take_all count bytes (omega arith), take-append-le 19 bytes (c ∷ []) (omega arith), take_all 19 bytes (omega arith))
 
 -- one character
 

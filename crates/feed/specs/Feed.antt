@@ -3,7 +3,7 @@ use Rattle.std.specs.Prelude.{if◌then◌else◌, ℕ, ◌+◌, ◌/◌, ◌≤
 use Rattle.lists.specs.Lists.{is_empty}
 use Rattle.lines.specs.Line.{line_of, line_length}
 use Rattle.lines.specs.Answers.{answer_length, newline, answer_to, tables_after, text_of, over}
-use Rattle.feed.specs.declared.feed.Part.{Part}
+use Rattle.feed.specs.declared.part.Part.{Part}
 use Rattle.feed.specs.declared.feed.Fed.{Fed}
 
 pub record Held : Type 0 where
@@ -12,7 +12,7 @@ pub record Held : Type 0 where
   pub line : List ℕ
 
 abbrev pub held_in : Part → List ℕ
-held_in part = part.line.items
+held_in part = take part.count part.bytes
 
 abbrev pub holding : List ℕ → Part → Held
 holding bytes part = record { tables = bytes; line = held_in part }

@@ -3,45 +3,18 @@ ghost use Rattle.std.specs.Prelude.{◌≡◌, ◌*◌, ◌≤◌, [], ◌∷◌
 ghost use Rattle.lines.specs.Answers.{answer_length, newline};
 ghost use Rattle.feed.specs.Feed.{held_in, holding, kept, ending, taken, Serves, ServesAll, Counts};
 
-use arrayvec::ArrayVec;
+pub use crate::part::Part;
 use lines::answer::{ANSWER, answer_line, answer_text};
-use lines::line::LINE;
-
-// One character more than a right line has, so that a longer one is known.
-const HELD: usize = LINE + 1;
 
 // The room that `out` needs for each character of a chunk, whatever its lines are.
 pub const ROOM: usize = ANSWER;
 
-// The start of the line that is not ended yet.
-#[derive(Clone, Drop)]
-pub struct Part {
-    line: ArrayVec<u8, HELD>,
-}
-
 // What a feed took of its chunk and wrote of its buffer, and the line that is left: `feed` and `finish`, which docs name, tell lengths, since what is written stands in the buffer that they were lent.
-#[derive(Clone, Drop)]
+#[derive(Clone, Copy)]
 pub struct Fed {
     pub part: Part,
     pub used: usize,
     pub written: usize,
-}
-
-impl Part {
-    pub fn new() -> Self
-        ensures { held_in result ≡ [] }
-    {
-        Part {
-            line: ArrayVec::new(),
-        }
-    }
-
-    // One character more, where there is place for it.
-    fn push(&mut self, c: u8)
-        ensures { held_in self.new ≡ kept (held_in self.old) c }
-    {
-        let _ = self.line.try_push(c);
-    }
 }
 
 // The line that is held, ended, and its answer over the front of `out`.
@@ -49,7 +22,7 @@ fn end_line(tables: &mut [u8], part: &mut Part, out: &mut [u8]) -> usize
     requires { answer_length ≤ length out.old }
     ensures { ServesAll (holding tables.old part.old) (newline ∷ []) tables.new part.new result out.old out.new }
 {
-    let answer = answer_line(tables, &part.line);
+    let answer = answer_line(tables, part.held());
     out[..ANSWER].copy_from_slice(&answer_text(answer));
     *part = Part::new();
     ANSWER
@@ -99,6 +72,6 @@ pub fn finish(tables: &mut [u8], part: Part, out: &mut [u8]) -> Fed
     ensures serves { Serves (holding tables.old part) (taken (ending (held_in part)) out.old) tables.new result out.old out.new }
     ensures within { Counts result.written out.new }
 {
-    let end: &[u8] = if part.line.is_empty() { &[] } else { b"\n" };
+    let end: &[u8] = if part.held().is_empty() { &[] } else { b"\n" };
     feed(tables, part, end, out)
 }

@@ -6,5 +6,5 @@ use Rattle.feed.proofs.feed.end_line.Goals as goal
 
 pub returns : goal.returns
 returns c =
-    let answered = rw c.deref.ensures.0 at c.answer_line-answer.ensures in
+    let answered = rw c.held.ensures at c.answer_line-answer.ensures in
     serves-newline (holding c.args.tables.now c.args.part.now) _ _ _ _ answered.tables c.new.ensures (rw (c.copy_from_slice.ensures.after, c.answer_text.ensures, answered.answer, text-over))
