@@ -36,7 +36,7 @@ fn laid(f: Formed) -> bool
     if !slots_fit(bytes) {
         return false;
     }
-    once_each(f)
+    once_each(bytes)
 }
 
 // Who runs, of laid tables. The waiters are tallied first: the cells, written one at a time, are read many at a time, and by then the writes are done.
@@ -50,7 +50,7 @@ fn runs(f: Formed) -> Option<u8>
     tally(&mut many, &mut more, f);
     let c = sole(f)?;
     let k = keys(bytes);
-    if !ready_falls(f, &k, bytes[PRIORITIES + c as usize] as u32 + 1) {
+    if !ready_falls(bytes, &k, bytes[PRIORITIES + c as usize] as u32 + 1) {
         return None;
     }
     let tallies = Tallies {

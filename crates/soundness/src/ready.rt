@@ -3,13 +3,12 @@ ghost use Rattle.std.specs.Prelude.{◌≡◌, ℕ, ◌+◌, ◌-◌, ◌<◌, �
 ghost use Rattle.lists.specs.Lists.{falls};
 ghost use Rattle.tables.specs.Limits.{priority_limit, process_limit};
 ghost use Rattle.tables.specs.Readers.{priority_of, ready_list};
-ghost use Rattle.layout.specs.Offsets.{priorities_at};
+ghost use Rattle.layout.specs.Offsets.{order_at, priorities_at};
 ghost use Rattle.layout.specs.Bytes.{from_bytes};
 ghost use Rattle.soundness.specs.Keys.{key_from, key_of, latest_of};
 
 use layout::offsets::{NEXT_SEMAPHORE, ORDER, PRIORITIES, SIZE, STATES};
 use layout::state::READY;
-use queues::formed::Formed;
 use std::array;
 use tables::Tables;
 
@@ -42,12 +41,11 @@ fn latest(last: u32, v: u32) -> u32
     v
 }
 
-// No key above `top`, nor above that of the ready process before it. Only unsound tables take the branch, so it is guessed right.
-pub fn ready_falls(f: Formed, k: &[u8; Tables::PROCESSES], top: u32) -> bool
-    requires { ((p : ℕ) → p < process_limit → get_or k.now p 0 ≡ key_of f.bytes.now p) × (0 < top) }
-    ensures { result ≡ falls (priority_of (from_bytes f.entry.bytes.now)) (top - 1) (ready_list (from_bytes f.entry.bytes.now)) }
+// No key above `top`, nor above that of the ready process before it. Only unsound tables take the branch, so it is guessed right. Of places and keys alone, and so no `Formed`.
+pub fn ready_falls(bytes: &[u8; SIZE], k: &[u8; Tables::PROCESSES], top: u32) -> bool
+    requires { ((i : ℕ) → i < process_limit → get_or bytes.now (order_at + i) 0 < process_limit) × ((p : ℕ) → p < process_limit → get_or k.now p 0 ≡ key_of bytes.now p) × (0 < top) }
+    ensures { result ≡ falls (priority_of (from_bytes bytes.now)) (top - 1) (ready_list (from_bytes bytes.now)) }
 {
-    let bytes = f.bytes;
     let mut last = top;
     for place in &bytes[ORDER..NEXT_SEMAPHORE] {
         let v = k[*place as usize] as u32;

@@ -3,9 +3,11 @@ use mathlib.Core.Path.{◌∙◌, ◌≡◌, sym}
 use Rattle.std.specs.Prelude.{Some}
 use Rattle.layout.specs.Bytes.{from_bytes}
 use Rattle.tables.specs.Test.{semaphores_fit}
+use Rattle.layout.proofs.Image.{formed-place}
 use Rattle.queues.proofs.Tally.{none-tallied}
 use Rattle.soundness.specs.Running.{sole_of}
 use Rattle.soundness.proofs.Parts.{nobody-runs, not-falling, not-fitting, priority-small, queues-said, runs}
+use borrow.Author.Rules.{rules}
 use Rattle.soundness.proofs.check.runs.Goals as goal
 use Rattle.soundness.proofs.check.runs.Goals.{In_ok-c, After-counts_fit}
 
@@ -25,6 +27,9 @@ returns-in_err-c c = c.from_residual.ensures ∙ nobody-runs c.args.f.bytes.now 
 
 pub keys-k-requires : goal.keys-k-requires
 keys-k-requires c = priority-small c.args.f.bytes.now c.args.f.formed c.requires
+
+pub ready_falls-requires : goal.ready_falls-requires
+ready_falls-requires c = (formed-place c.args.f.bytes.now c.args.f.formed, c.keys-k.ensures, search rules)
 
 pub returns-then-not-ready_falls : goal.returns-then-not-ready_falls
 returns-then-not-ready_falls c =

@@ -4,7 +4,6 @@ use mathlib.Core.Path.{◌∙◌, ◌≡◌, ap, sym}
 use lib.ListN.{get_or}
 use Rattle.layout.specs.Offsets.{order_at}
 use Rattle.tables.specs.Limits.{process_limit}
-use Rattle.layout.proofs.Image.{formed-place}
 use Rattle.soundness.specs.Keys.{key_of}
 use Rattle.soundness.proofs.Standing.{standing, standing-below, standing-byte}
 use Rattle.soundness.proofs.FallingBytes.{key-on, key-some, key-stop, left, left-all, left-none}
@@ -13,7 +12,7 @@ use Rattle.soundness.proofs.ready.ready_falls.Goals as goal
 use Rattle.soundness.proofs.ready.ready_falls.Goals.{In-loop-place}
 
 pub bounds-k-place : goal.bounds-k-place
-bounds-k-place c = standing-below c.args.f.bytes.now c.loop-place.place-index c.args.f.formed (search rules)
+bounds-k-place c = standing-below c.args.bytes.now c.loop-place.place-index c.requires.0 (search rules)
 
 -- the place that the loop is at
 module _ (c : In-loop-place) where
@@ -21,35 +20,35 @@ module _ (c : In-loop-place) where
   inside = search rules
 
   abbrev place : ℕ
-  place = standing c.args.f.bytes.now c.loop-place.place-index
+  place = standing c.args.bytes.now c.loop-place.place-index
 
-  here : get_or c.args.f.bytes.now (order_at + c.loop-place.place-index) 0 ≡ place
-  here = standing-byte c.args.f.bytes.now c.loop-place.place-index inside
+  here : get_or c.args.bytes.now (order_at + c.loop-place.place-index) 0 ≡ place
+  here = standing-byte c.args.bytes.now c.loop-place.place-index inside
 
-  key : get_or c.args.k.now place 0 ≡ key_of c.args.f.bytes.now place
-  key = c.requires.0 place (standing-below c.args.f.bytes.now c.loop-place.place-index c.args.f.formed inside)
+  key : get_or c.args.k.now place 0 ≡ key_of c.args.bytes.now place
+  key = c.requires.1 place (standing-below c.args.bytes.now c.loop-place.place-index c.requires.0 inside)
 
 pub returns-then-last-v : goal.returns-then-last-v
 returns-then-last-v c =
     let l = (goal.at.returns-then-last-v c).In-loop-place in
-    let f = c.args.f in
+    let bs = c.args.bytes.now in
     let loop = c.loop-place in
-    let stop = key-stop f.bytes.now (formed-place f.bytes.now f.formed) loop.place-index (place l) (search rules) (here l) loop.last _ (key l) loop.invariant.0 c.if-last-v.true in
-    sym (sym (left-all f.bytes.now (c.args.top - 1)) ∙ loop.invariant.1 ∙ stop)
+    let stop = key-stop bs c.requires.0 loop.place-index (place l) (search rules) (here l) loop.last _ (key l) loop.invariant.0 c.if-last-v.true in
+    sym (sym (left-all bs (c.args.top - 1)) ∙ loop.invariant.1 ∙ stop)
 
 pub loop-place-preserved : goal.loop-place-preserved
 loop-place-preserved c =
     let l = (goal.at.loop-place-preserved c).In-loop-place in
-    let f = c.args.f in
+    let bs = c.args.bytes.now in
     let loop = c.loop-place in
-    let named = formed-place f.bytes.now f.formed in
+    let named = c.requires.0 in
     let e = c.latest-last.ensures in (
-      rw e (key-some f.bytes.now named loop.place-index (place l) (search rules) (here l) loop.last _ (key l) loop.invariant.0),
-      loop.invariant.1 ∙ key-on f.bytes.now named loop.place-index (place l) (search rules) (here l) loop.last _ (key l) loop.invariant.0 c.if-last-v.false
-          ∙ ap (λ (n : ℕ). left f.bytes.now (n - 1) (loop.place-index + 1)) (sym e),
+      rw e (key-some bs named loop.place-index (place l) (search rules) (here l) loop.last _ (key l) loop.invariant.0),
+      loop.invariant.1 ∙ key-on bs named loop.place-index (place l) (search rules) (here l) loop.last _ (key l) loop.invariant.0 c.if-last-v.false
+          ∙ ap (λ (n : ℕ). left bs (n - 1) (loop.place-index + 1)) (sym e),
     )
 
 pub returns : goal.returns
 returns c =
-    let bs = c.args.f.bytes.now in
+    let bs = c.args.bytes.now in
     sym (sym (left-all bs (c.args.top - 1)) ∙ c.loop-place.invariant.1 ∙ left-none bs (c.loop-place.last - 1) c.loop-place.place-index (search rules))

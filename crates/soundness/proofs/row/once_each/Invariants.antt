@@ -8,4 +8,4 @@ use Rattle.lists.proofs.Bits.{mask}
 use Rattle.soundness.proofs.row.once_each.Given as goal
 
 abbrev pub invariant-loop-place : goal.invariant-loop-place
-invariant-loop-place l = (l.seen ≡ mask process_limit (λ p. ltb 0 (times p (take l.place-index (from_bytes l.f.bytes.now).order))))
+invariant-loop-place l = (l.seen ≡ mask process_limit (λ p. ltb 0 (times p (take l.place-index (from_bytes l.bytes).order))))
