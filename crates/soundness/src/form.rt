@@ -32,14 +32,12 @@ fn flags_plain(bytes: &[u8; SIZE]) -> bool
         .fold(true, |ok, flag| ok & (*flag < 2))
 }
 
-// The bytes, if they are well formed.
+// The bytes, if they are well formed. The flags are looked at only where the rest is named, so that others are refused sooner.
 pub fn formed(bytes: &[u8]) -> Option<Formed>
     ensures { MatchOption result (well_formed bytes.now ≡ false) (λ f. f.bytes.now ≡ bytes.now) }
 {
     let bytes: &[u8; SIZE] = bytes.as_array()?;
-    let named = both_named(bytes);
-    let flags = flags_plain(bytes);
-    if named & flags {
+    if both_named(bytes) && flags_plain(bytes) {
         Some(Formed { bytes })
     } else {
         None
