@@ -6,7 +6,7 @@ use mathlib.Core.Path.{◌∙◌, ◌≡◌, ap, refl, subst}
 use mathlib.Core.Bool.{Bool}
 use mathlib.Core.List.{List}
 use lib.ListN.{length, length-set, set}
-use lib.Seq.{set-set}
+use lib.Seq.{get_or-set_other, get_or-set_same, set-set}
 use lib.IntN.{ℤ}
 use mir.Syntax.{w32}
 use mir.Val.{SFits, of_z}
@@ -17,12 +17,12 @@ use Rattle.tables.specs.declared.Semaphore.{Semaphore}
 use Rattle.tables.specs.declared.Tables.{Tables}
 use Rattle.tables.specs.Limits.{process_limit, semaphore_limit}
 use Rattle.tables.specs.Readers.{count_of, free_semaphore, free_slot, is_used, priority_of, state_of}
-use Rattle.tables.specs.Setters.{with_count, with_cursors, with_next_process, with_next_semaphore, with_priority, with_process, with_processes, with_semaphore, with_semaphores, with_state, with_used}
+use Rattle.tables.specs.Setters.{with_count, with_cursors, with_next_process, with_next_semaphore, with_order, with_priority, with_process, with_processes, with_semaphore, with_semaphores, with_state, with_used}
 use Rattle.lists.proofs.Bools.{below?}
 use Rattle.layout.specs.Offsets.{counts_at, next_process_at, next_semaphore_at, order_at, priorities_at, states_at, used_at}
 use Rattle.layout.specs.Bytes.{byte_of, state_byte, used_byte, word_byte}
 use Rattle.layout.specs.Stands.{Held, Named, Stands, Turns, store4}
-use Rattle.layout.proofs.Regions.{count-byte, entry, here, kept, priority-byte, put_byte, put_word, state-byte, used-byte}
+use Rattle.layout.proofs.Regions.{count-byte, entry, here, kept, place_byte, priority-byte, put_byte, put_word, state-byte, used-byte}
 
 -- Each process has a slot, each semaphore an entry
 
@@ -56,6 +56,17 @@ held-semaphore t h s x hs fits =
       row = h.row;
     }
 
+held_place : (t : Tables) → Held t → (j q : ℕ) → j < process_limit → q < process_limit → Held (with_order t (set t.order j q))
+held_place t h j q hj hq =
+    record {
+      slots = h.slots;
+      entries = h.entries;
+      places = length-set t.order j q ∙ h.places;
+      waits = h.waits;
+      fits = h.fits;
+      row = λ k hk. entry t.order j q 0 (omega (arith, h.places)) (λ (z : ℕ). z < process_limit) hq k (h.row k hk);
+    }
+
 -- What stands at each byte after a change: a part names its own bytes, and the test that bounds it closes all others
 
 module _ (t : Tables) where
@@ -77,6 +88,12 @@ module _ (t : Tables) where
       (kept t.semaphores s x free_semaphore h (λ (z : Semaphore). word_byte (of_z w32 z.count) ((i - counts_at) % 4)) ((i - counts_at) / 4)
       (λ e. ap (λ (c : ℤ). word_byte (of_z w32 c) ((i - counts_at) % 4)) (count ((i - counts_at) % 4) (omega arith) (omega arith)))))
       (λ c. rw (le-ltb i counts_at b, le-ltb i order_at c))))
+
+  place_same : (j q : ℕ) → j < length t.order → (i : ℕ) → (i ≡ order_at + j → ⊥) → byte_of t i ≡ byte_of (with_order t (set t.order j q)) i
+  place_same j q h i away =
+      below? i order_at (λ a. rw (lt-ltb i order_at a))
+      (λ a. below? i next_semaphore_at (λ b. rw (get_or-set_other t.order j (i - order_at) q 0 (λ e. away (omega arith))))
+      (λ b. rw (le-ltb i next_semaphore_at b)))
 
   cursor-same : (s p i : ℕ) → (i ≡ next_semaphore_at → s ≡ t.next_semaphore) → (i ≡ next_process_at → p ≡ t.next_process) → byte_of t i ≡ byte_of (with_cursors t s p) i
   cursor-same s p i first second =
@@ -127,6 +144,14 @@ module _ (bs : List ℕ) where
       put_word t (with_count t s c) bs st (held-semaphore t st.held s x h f) (counts_at + s * 4) (of_z w32 c) (omega arith)
       (λ d hd. count-byte (with_count t s c) s d (counts_at + s * 4 + d) h hd refl ∙ here t.semaphores s x free_semaphore (entry-there t st.held s h) (λ (y : Semaphore). word_byte (of_z w32 y.count) d))
       (λ i q. semaphore-same t s x (entry-there t st.held s h) i (λ e. refl) (λ d hd e. absurd (q d hd e)))
+
+  pub place-turns : (j q : ℕ) → j < process_limit → q < process_limit → Turns (λ t. with_order t (set t.order j q)) bs (set bs (order_at + j) q)
+  unfolding Turns
+  place-turns j q h hq t st =
+      let ho : j < length t.order = omega (arith, st.held.places) in
+      let t' : Tables = with_order t (set t.order j q) in
+      put_byte t t' bs st (held_place t st.held j q h hq) (order_at + j) q (omega arith)
+      (place_byte t' j (order_at + j) h refl ∙ get_or-set_same t.order j q 0 ho) (place_same t j q ho)
 
   pub next-semaphore-turns : (s : ℕ) → Turns (λ t. with_next_semaphore t s) bs (set bs next_semaphore_at s)
   unfolding Turns

@@ -1,10 +1,10 @@
 // Each field of the lent bytes, read and written where it stands.
 // A process is named by a plain byte: `call` of `kernel`, which docs name, takes any for the caller, and one read from a row is below the limit only where the bytes stand for tables. A type that says so would need a test that gives up, or `well_formed` proved anew at every write.
-ghost use Rattle.std.specs.Prelude.{◌≡◌, ◌+◌, ◌<◌, get_or};
-ghost use Rattle.tables.specs.Limits.{process_limit};
+ghost use Rattle.std.specs.Prelude.{◌≡◌, ◌+◌, ◌<◌, get_or, length, set};
+ghost use Rattle.tables.specs.Limits.{process_limit, semaphore_limit};
 ghost use Rattle.tables.specs.Readers.{process, is_used, count_of};
-ghost use Rattle.tables.specs.Setters.{with_process, with_state, with_semaphore, with_used, with_count, with_next_semaphore, with_next_process};
-ghost use Rattle.layout.specs.Offsets.{priorities_at, size};
+ghost use Rattle.tables.specs.Setters.{with_process, with_state, with_semaphore, with_used, with_count, with_order, with_next_semaphore, with_next_process};
+ghost use Rattle.layout.specs.Offsets.{priorities_at};
 ghost use Rattle.layout.specs.Bytes.{process_at};
 ghost use Rattle.layout.specs.Stands.{Named, Turns, Tells};
 
@@ -14,9 +14,9 @@ use crate::state::{byte_state, state_byte};
 use crate::word::{count_at, put_count_at};
 use tables::{Process, Semaphore, State};
 
-// By an index, as the loop of decode has it.
-pub fn process_at(bytes: &[u8; SIZE], i: usize) -> Process
-    requires { priorities_at + i < size }
+// By an index, as the loop of decode has it, of any slice that reaches so far.
+pub fn process_at(bytes: &[u8], i: usize) -> Process
+    requires { priorities_at + i < length bytes.now }
     ensures { result ≡ process_at bytes.now i }
 {
     Process {
@@ -53,10 +53,10 @@ pub fn is_used(bytes: &[u8; SIZE], s: SemaphoreNumber) -> bool
     bytes[USED + s.number as usize] == 1
 }
 
-pub fn put_used(bytes: &mut [u8; SIZE], s: SemaphoreNumber, used: bool)
-    ensures { Turns (λ t. with_used t s.number used) bytes.old bytes.new }
+pub fn put_used(bytes: &mut [u8; SIZE], s: u8, used: bool)
+    ensures { s < semaphore_limit → Turns (λ t. with_used t s used) bytes.old bytes.new }
 {
-    bytes[USED + s.number as usize] = u8::from(used);
+    bytes[USED + s as usize] = u8::from(used);
 }
 
 pub fn count(bytes: &[u8; SIZE], s: SemaphoreNumber) -> i32
@@ -74,7 +74,7 @@ pub fn put_count(bytes: &mut [u8; SIZE], s: SemaphoreNumber, count: i32)
 pub fn put_semaphore(bytes: &mut [u8; SIZE], s: SemaphoreNumber, entry: Semaphore)
     ensures { Turns (λ t. with_semaphore t s.number entry) bytes.old bytes.new }
 {
-    put_used(bytes, s, entry.used);
+    put_used(bytes, s.number, entry.used);
     put_count(bytes, s, entry.count);
 }
 
@@ -84,6 +84,13 @@ pub fn place(bytes: &[u8; SIZE], i: usize) -> u8
     ensures { Tells (λ t. get_or t.order i 0) bytes.now result }
 {
     bytes[ORDER + i]
+}
+
+pub fn put_place(bytes: &mut [u8; SIZE], i: usize, p: u8)
+    requires { i < process_limit }
+    ensures { p < process_limit → Turns (λ t. with_order t (set t.order i p)) bytes.old bytes.new }
+{
+    bytes[ORDER + i] = p;
 }
 
 // The cursors have two functions each: one for both would be told the field of the tables beside the place, which is no shorter.

@@ -10,4 +10,4 @@ returns c =
     let x = c.args.entry in
     let f : SFits w32 x.count = search rules in
     let counted = rw (to_z-of_z w32 x.count f) at c.put_count.ensures in
-    semaphore-turns _ x _ _ _ c.args.s.below c.put_used.ensures counted
+    semaphore-turns _ x _ _ _ c.args.s.below (c.put_used.ensures c.args.s.below) counted
