@@ -8,12 +8,18 @@ use lib.Seq.{get_or-set_other, get_or-set_same}
 use mir.Syntax.{w32}
 use mir.Val.{of_z}
 use borrow.Author.Tests.{le-ltb, lt-ltb}
+use borrow.Rule.Slice.PartMut.{put_mid}
+use Rattle.std.proofs.Common.{rules}
+use Rattle.std.proofs.lemmas.List.{places}
+use Rattle.std.proofs.lemmas.Slice.{overwrites}
 use Rattle.tables.specs.declared.Tables.{Tables}
 use Rattle.tables.specs.Limits.{process_limit, semaphore_limit}
 use Rattle.tables.specs.Readers.{count_of, is_used, priority_of, state_of}
+use Rattle.lists.specs.Numbers.{listed}
 use Rattle.lists.proofs.Bools.{below?, either}
+use Rattle.lists.proofs.NumberLaws.{listed-all, listed-length, listed_at}
 use Rattle.layout.specs.Offsets.{counts_at, next_semaphore_at, order_at, priorities_at, size, states_at, used_at}
-use Rattle.layout.specs.Bytes.{byte_of, state_byte, used_byte, word_byte}
+use Rattle.layout.specs.Bytes.{byte_of, state_byte, to_bytes, used_byte, word_byte}
 use Rattle.layout.specs.Stands.{Held, Stands, store4}
 use Rattle.layout.proofs.Words.{word-beside, word-here, word-long}
 
@@ -76,6 +82,54 @@ module _ (t t' : Tables) (bs : List ℕ) (st : Stands t bs) (held : Held t') whe
             (λ d hd q. rw q (word-here bs k n (omega arith) d hd ∙ sym (e d hd)))
             (λ away. word-beside bs k n i away ∙ st.bytes i hi ∙ same i away);
       }
+
+-- Bytes with a part written, those from a on, k of them
+
+module _ (bs ys : List ℕ) (a k : ℕ) (within : a + k ≤ length bs) (e : length ys ≡ k) where
+  pub mid-length : length (put_mid a k bs ys) ≡ length bs
+  mid-length = search (rules, overwrites)
+
+  pub before-mid : (i : ℕ) → i < a → get_or (put_mid a k bs ys) i 0 ≡ get_or bs i 0
+  before-mid i h = search (rules, places)
+
+  pub in-mid : (i : ℕ) → a ≤ i → i < a + k → get_or (put_mid a k bs ys) i 0 ≡ get_or ys (i - a) 0
+  in-mid i h g = search (rules, places)
+
+  pub behind-mid : (i : ℕ) → a + k ≤ i → get_or (put_mid a k bs ys) i 0 ≡ get_or bs i 0
+  behind-mid i h = search (rules, places)
+
+-- Bytes written from the front: the first k are those of the tables
+
+module _ (t : Tables) where
+  pub record Begins (k : ℕ) (bs : List ℕ) : Type 0 where
+    pub long : length bs ≡ size
+    pub same : (i : ℕ) → i < k → get_or bs i 0 ≡ byte_of t i
+
+  pub begins-part : (a k : ℕ) (bs ys : List ℕ) → Begins a bs → a + k ≤ size → ys ≡ listed 0 k (λ i. byte_of t (a + i)) → Begins (a + k) (put_mid a k bs ys)
+  begins-part a k bs ys b h e =
+      let f : ℕ → ℕ = λ i. byte_of t (a + i) in
+      let within : a + k ≤ length bs = omega (arith, b.long) in
+      let l : length ys ≡ k = ap length e ∙ listed-length f 0 k in
+      record {
+        long = mid-length bs ys a k within l ∙ b.long;
+        same = λ i q. below? i a
+            (λ p. before-mid bs ys a k within l i p ∙ b.same i p)
+            (λ p. let n : a + (i - a) ≡ i = omega arith in
+            in-mid bs ys a k within l i p q ∙ ap (λ (z : List ℕ). get_or z (i - a) 0) e ∙ listed_at f k (i - a) 0 (omega arith) ∙ ap (byte_of t) n);
+      }
+
+  pub begins-byte : (a v : ℕ) (bs : List ℕ) → Begins a bs → a < size → v ≡ byte_of t a → Begins (a + 1) (set bs a v)
+  begins-byte a v bs b h e =
+      record {
+        long = length-set bs a v ∙ b.long;
+        same = λ i q. either i a
+            (λ p. rw p (get_or-set_same bs a v 0 (omega (arith, b.long)) ∙ e))
+            (λ p. get_or-set_other bs a i v 0 p ∙ b.same i (omega arith));
+      }
+
+  pub begins-all : (bs : List ℕ) → Begins size bs → bs ≡ to_bytes t
+  unfolding to_bytes
+  begins-all bs b = sym (listed-all 0 (byte_of t) size bs b.long (λ i h. sym (b.same i h)))
 
 -- One entry of a table after a store
 

@@ -13,16 +13,15 @@ use borrow.Rule.Slice.PartMut.{mid_of, put_mid}
 use Rattle.std.specs.List.{All, position, position_or_len, remove, slice_range}
 use Rattle.std.specs.Option.{unwrap_or}
 use Rattle.std.specs.Prelude.{Option}
-use Rattle.std.proofs.Common.{rules}
-use Rattle.std.proofs.lemmas.List.{append-nil, drop-set-lt, drop_all, get_or-drop, get_or-set_same, get_or_at, length-append, length-drop, length-set, places, take-set-le, take_at, take_rest}
+use Rattle.std.proofs.lemmas.List.{append-nil, drop-set-lt, drop_all, get_or-drop, get_or-set_same, get_or_at, length-append, length-drop, length-set, take-set-le, take_at, take_rest}
 use Rattle.std.proofs.lemmas.List.Elements.{All-append, All-drop, All-from_get_or, All-same, All-set, All-take}
 use Rattle.std.proofs.lemmas.List.Sums.{fails_before_first, passes_at_first}
-use Rattle.std.proofs.lemmas.Slice.{overwrites, put_mid-rotated}
+use Rattle.std.proofs.lemmas.Slice.{put_mid-rotated}
 use Rattle.layout.specs.Bytes.{process_at}
 use Rattle.layout.specs.Offsets.{next_semaphore_at, order_at}
 use Rattle.layout.specs.Stands.{Stands, Tells, Turns}
 use Rattle.layout.proofs.Readers.{process-read}
-use Rattle.layout.proofs.Regions.{place_byte}
+use Rattle.layout.proofs.Regions.{before-mid, behind-mid, in-mid, mid-length, place_byte}
 use Rattle.lists.specs.Lists.{place, put_before, take_out}
 use Rattle.lists.proofs.Bools.{below?}
 use Rattle.tables.specs.Limits.{process_limit}
@@ -125,19 +124,6 @@ module _ (xs : List ℕ) (i n : ℕ) (l : length xs ≡ suc n) (ys : List ℕ) w
       ∙ sym (in-there test n xs i (sym l) f)
 
 -- The bytes
-
-module _ (bs xs : List ℕ) (a k : ℕ) (within : a + k ≤ length bs) (e : length xs ≡ k) where
-  mid-length : length (put_mid a k bs xs) ≡ length bs
-  mid-length = search (rules, overwrites)
-
-  before-mid : (i : ℕ) → i < a → get_or (put_mid a k bs xs) i 0 ≡ get_or bs i 0
-  before-mid i h = search (rules, places)
-
-  in-mid : (i : ℕ) → a ≤ i → i < a + k → get_or (put_mid a k bs xs) i 0 ≡ get_or xs (i - a) 0
-  in-mid i h g = search (rules, places)
-
-  behind-mid : (i : ℕ) → a + k ≤ i → get_or (put_mid a k bs xs) i 0 ≡ get_or bs i 0
-  behind-mid i h = search (rules, places)
 
 -- each entry names a process
 abbrev Names : List ℕ → Type 0
