@@ -1,205 +1,293 @@
--- One process taken out of the row and put back. Assumes nothing.
+-- One process moved along the row, where it stands: place by place, up or down. Assumes nothing.
 use Prim.Native.Nat.{◌+◌, ◌-◌, ◌<◌, ◌≤◌, suc, zero, ℕ}
+use native.Mathlib.Numerals.{add-one}
 use native.Mathlib.Omega.{arith}
-use mathlib.Core.Bool.{Bool, false, true}
+use mathlib.Core.Bool.{Bool, ◌||◌, cond, false, not, true}
 use mathlib.Core.List.{List, [], ◌++◌, ◌∷◌}
-use mathlib.Core.Logic.{◌⊎◌, inl, inr, ⊎_elim}
 use mathlib.Core.Path.{◌∙◌, ◌≡◌, ap, refl, subst, sym}
 use lib.Dec.{eqb}
-use lib.ListN.{drop, get_or, length, set, take}
-use lib.Seq.{drop-cons}
-use borrow.Author.Tests.{le-ltb, lt-ltb}
-use borrow.Rule.Slice.PartMut.{mid_of, put_mid}
-use Rattle.std.specs.List.{All, position, position_or_len, remove, slice_range}
+use lib.ListN.{drop, drop_of_length-le, get_or, length, set, take}
+use lib.Seq.{append_snoc, drop-cons, drop-set-lt, set_split, take-suc-set}
+use borrow.Author.Tests.{eq-eqb, le-ltb, lt-ltb, ne_eqb}
+use Rattle.std.specs.List.{position, position_or_len}
 use Rattle.std.specs.Option.{unwrap_or}
 use Rattle.std.specs.Prelude.{Option}
-use Rattle.std.proofs.lemmas.List.{append-nil, drop-set-lt, drop_all, get_or-drop, get_or-set_same, get_or_at, length-append, length-drop, length-set, take-set-le, take_at, take_rest}
-use Rattle.std.proofs.lemmas.List.Elements.{All-append, All-drop, All-from_get_or, All-same, All-set, All-take}
-use Rattle.std.proofs.lemmas.List.Sums.{fails_before_first, passes_at_first}
-use Rattle.std.proofs.lemmas.Slice.{put_mid-rotated}
+use Rattle.std.proofs.lemmas.List.{get_or-take, length-take}
+use Rattle.std.proofs.lemmas.List.Sums.{prefix_len-le-length}
 use Rattle.layout.specs.Bytes.{process_at}
-use Rattle.layout.specs.Offsets.{next_semaphore_at, order_at}
 use Rattle.layout.specs.Stands.{Stands, Tells, Turns}
 use Rattle.layout.proofs.Readers.{process-read}
-use Rattle.layout.proofs.Regions.{before-mid, behind-mid, in-mid, mid-length, place_byte}
 use Rattle.lists.specs.Lists.{place, put_before, take_out}
-use Rattle.lists.proofs.Bools.{below?}
+use Rattle.lists.proofs.Bools.{below?, either, split}
 use Rattle.tables.specs.Limits.{process_limit}
+use Rattle.tables.specs.Readers.{process}
 use Rattle.tables.specs.Setters.{with_order}
+use Rattle.tables.specs.States.{is_ready}
+use Rattle.tables.specs.declared.Process.{Process}
 use Rattle.tables.specs.declared.Tables.{Tables}
-use Rattle.order.specs.Row.{below, low, placed, put_back, put_last}
-use Rattle.order.proofs.Found.{row-tells}
-
--- Where a search ends
-
--- the first place that passes, or the last where none does
-pub record FirstPlace (test : ℕ → Bool) (xs : List ℕ) (i : ℕ) : Type 0 where
-  pub inside : i < length xs
-  pub before : (k : ℕ) → k < i → test (get_or xs k 0) ≡ false
-  pub here : (test (get_or xs i 0) ≡ true) ⊎ (suc i ≡ length xs)
-
--- what a search finds, with the last place for none
-pub first_place : (test : ℕ → Bool) (xs : List ℕ) (n : ℕ) (o : Option ℕ) (r : ℕ) → length xs ≡ suc n → o ≡ position test xs → r ≡ unwrap_or o n → FirstPlace test xs r
-first_place test xs n o r l e u = subst (FirstPlace test xs) (sym (u ∙ ap (λ (z : Option ℕ). unwrap_or z n) e)) there
-  where
-    i : ℕ
-    i = position_or_len test xs
-
-    there : FirstPlace test xs (unwrap_or (position test xs) n)
-    there =
-        below? i (length xs)
-        (λ h. rw (lt-ltb i (length xs) h) (record { inside = h; before = λ k g. fails_before_first test xs k 0 g; here = inl (passes_at_first test xs 0 h) }))
-        (λ h. rw (le-ltb i (length xs) h) (record { inside = omega (arith, l); before = λ k g. fails_before_first test xs k 0 (omega (arith, l)); here = inr (sym l) }))
-
-behind : (test : ℕ → Bool) (x y i : ℕ) (ys : List ℕ) → FirstPlace test (x ∷ y ∷ ys) (suc i) → FirstPlace test (y ∷ ys) i
-behind test x y i ys f = record { inside = omega (arith, f.inside); before = λ k h. f.before (suc k) (omega arith); here = ⊎_elim (λ e. inl e) (λ e. inr (omega arith)) f.here }
-
--- the same place by a test that agrees on the entries
-alike : (f g : ℕ → Bool) (xs : List ℕ) (i : ℕ) → ((k : ℕ) → k < length xs → f (get_or xs k 0) ≡ g (get_or xs k 0)) → FirstPlace f xs i → FirstPlace g xs i
-alike f g xs i same p =
-    record {
-      inside = p.inside;
-      before = λ k h. sym (same k (omega (arith, p.inside))) ∙ p.before k h;
-      here = ⊎_elim (λ e. inl (sym (same i p.inside) ∙ e)) (λ e. inr e) p.here;
-    }
+use Rattle.order.specs.Row.{Spotted, below, low, placed, put_last, risen, sunk}
 
 -- Lists
 
--- p taken out there
-out-there : (p : ℕ) (xs : List ℕ) (i : ℕ) → FirstPlace (λ q. eqb q p) xs i → take_out p xs ≡ remove xs i
-unfolding take_out
-out-there p [] i f = absurd (omega (arith, f.inside))
-out-there p (x ∷ []) zero f = refl
-out-there p (x ∷ []) (suc i) f = absurd (omega (arith, f.inside))
-out-there p (x ∷ y ∷ ys) zero f = ⊎_elim (λ e. rw e refl) (λ e. absurd (omega arith)) f.here
-out-there p (x ∷ y ∷ ys) (suc i) f = rw (f.before 0 (omega arith)) (ap (λ (z : List ℕ). x ∷ z) (out-there p (y ∷ ys) i (behind (λ q. eqb q p) x y i ys f)))
+-- the last store of a walk: what is done, the value, what stood behind
+stored : (a : List ℕ) (i v : ℕ) → i < length a → take i a ++ v ∷ drop (i + 1) a ≡ set a i v
+stored a i v h = sym (rw add-one (set_split a i v h))
 
--- the last entry put in there
-in-there : (test : ℕ → Bool) (n : ℕ) (xs : List ℕ) (i : ℕ) → suc n ≡ length xs → FirstPlace test xs i → put_before test (get_or xs n 0) (take n xs) ≡ take i xs ++ get_or xs n 0 ∷ take (n - i) (drop i xs)
+-- a store in the middle of a walk
+walked : (a : List ℕ) (i v : ℕ) (rest : List ℕ) → i < length a → take (i + 1) (set a i v) ++ rest ≡ take i a ++ v ∷ rest
+walked a i v rest h = rw (add-one, take-suc-set a i v h, append_snoc)
+
+behind : (a : List ℕ) (i v : ℕ) → drop (i + 1) (set a i v) ≡ drop (i + 1) a
+behind a i v = rw add-one (drop-set-lt (suc i) a i v (omega arith))
+
+-- a list from place i on
+pub next : (a : List ℕ) (i : ℕ) → i < length a → drop i a ≡ get_or a i 0 ∷ drop (i + 1) a
+next a i h = rw add-one (drop-cons a i 0 h)
+
+pub ended : (a : List ℕ) (i : ℕ) → length a ≡ i + 1 → drop (i + 1) a ≡ []
+ended a i h = drop_of_length-le a {i = i + 1} (omega arith)
+
+module _ (p x : ℕ) where
+  pub out-here : (ys : List ℕ) → x ≡ p → take_out p (x ∷ ys) ≡ ys
+  unfolding take_out
+  out-here [] e = refl
+  out-here (y ∷ ys) e = rw (eq-eqb x p e) refl
+
+  pub out-on : (y : ℕ) (ys : List ℕ) → (x ≡ p → ⊥) → take_out p (x ∷ y ∷ ys) ≡ x ∷ take_out p (y ∷ ys)
+  unfolding take_out
+  out-on y ys e = rw (ne_eqb x p e) refl
+
+  pub out-last : take_out p (x ∷ []) ≡ []
+  unfolding take_out
+  out-last = refl
+
+  pub before_here : (test : ℕ → Bool) (ys : List ℕ) → test x ≡ true → put_before test p (x ∷ ys) ≡ p ∷ x ∷ ys
+  unfolding put_before
+  before_here test ys e = rw e refl
+
+  pub before_on : (test : ℕ → Bool) (ys : List ℕ) → test x ≡ false → put_before test p (x ∷ ys) ≡ x ∷ put_before test p ys
+  unfolding put_before
+  before_on test ys e = rw e refl
+
+pub before-none : (test : ℕ → Bool) (p : ℕ) → put_before test p [] ≡ p ∷ []
 unfolding put_before
-in-there test n [] i l f = absurd (omega (arith, f.inside))
-in-there test n (x ∷ []) (suc i) l f = absurd (omega (arith, f.inside))
-in-there test zero (x ∷ []) zero l f = refl
-in-there test (suc n) (x ∷ []) zero l f = absurd (omega arith)
-in-there test zero (x ∷ y ∷ ys) i l f = absurd (omega arith)
-in-there test (suc n) (x ∷ y ∷ ys) zero l f =
-    let m : suc n - 0 ≡ suc n = omega arith in
-    ⊎_elim (λ e. rw e (ap (λ (k : ℕ). get_or (y ∷ ys) n 0 ∷ take k (x ∷ y ∷ ys)) (sym m))) (λ e. absurd (omega arith)) f.here
-in-there test (suc n) (x ∷ y ∷ ys) (suc i) l f =
-    let m : suc n - suc i ≡ n - i = omega arith in
-    rw (f.before 0 (omega arith), m) (ap (λ (z : List ℕ). x ∷ z) (in-there test n (y ∷ ys) i (omega arith) (behind test x y i ys f)))
+before-none test p = refl
 
--- what stands from place i on, and a list with ys in its place
-abbrev pub end : ℕ → List ℕ → List ℕ
-end i xs = mid_of i (length xs - i) xs
+-- p goes up: the carry c is put in at j, and p taken out behind
 
-abbrev pub with_end : ℕ → List ℕ → List ℕ → List ℕ
-with_end i xs ys = put_mid i (length xs - i) xs ys
+pub record Rising (p i : ℕ) (t : Tables) (j c : ℕ) (b : List ℕ) : Type 0 where
+  pub row : List ℕ
+  pub small : c < process_limit
+  pub stands : Stands (with_order t row) b
+  pub is : take j row ++ c ∷ take_out p (drop j row) ≡ risen p i t.order
 
-module _ (xs : List ℕ) (i n : ℕ) (l : length xs ≡ suc n) (ys : List ℕ) where
-  -- the code takes p out: p stands there, and the end turns by one
-  out-turned : (p : ℕ) → FirstPlace (λ q. eqb q p) xs i → ys ≡ drop 1 (end i (set xs i p)) ++ take 1 (end i (set xs i p)) → with_end i (set xs i p) ys ≡ put_last p xs
-  out-turned p f e =
-      let row : List ℕ = set xs i p in
-      let long : length row ≡ length xs = length-set xs i p in
-      put_mid-rotated i (length row - i) row ys 0 (omega (arith, long, f.inside)) (omega (arith, long, f.inside)) e
-      ∙ ap (λ (q : ℕ). remove row i ++ q ∷ []) (get_or-set_same xs i p 0 f.inside)
-      ∙ ap (λ (z : List ℕ). z ++ p ∷ [])
-      (ap (λ (z : List ℕ). z ++ drop (suc i) row) (take-set-le i xs i p (omega arith)) ∙ ap (λ (z : List ℕ). take i xs ++ z) (drop-set-lt (suc i) xs i p (omega arith)) ∙ sym (out-there p xs i f))
+-- the same of all tables that the bytes were
+unfoldable pub Rises : ℕ → ℕ → List ℕ → ℕ → ℕ → List ℕ → Type 0
+Rises p i a j c b = p < process_limit → (t : Tables) → Stands t a → Rising p i t j c b
 
-  -- it puts the last in: the end turns by one the other way
-  in-turned : (test : ℕ → Bool) → FirstPlace test xs i → ys ≡ drop (length (end i xs) - 1) (end i xs) ++ take (length (end i xs) - 1) (end i xs)
-      → with_end i xs ys ≡ put_before test (get_or xs n 0) (take n xs)
-  in-turned test f e =
-      let zs : List ℕ = drop i xs in
-      let long : length zs ≡ suc (n - i) = length-drop i xs ∙ omega (arith, l, f.inside) in
-      let last : drop (n - i) zs ≡ get_or xs n 0 ∷ [] =
-      drop-cons zs (n - i) 0 (omega (arith, long))
-      ∙ ap (λ (z : List ℕ). get_or zs (n - i) 0 ∷ z) (drop_all (suc (n - i)) zs (omega (arith, long)))
-      ∙ ap (λ (q : ℕ). q ∷ []) (get_or-drop i xs (n - i) 0 ∙ ap (λ (k : ℕ). get_or xs k 0) (omega (arith, l, f.inside))) in
-      let there : length zs - 1 ≡ n - i = omega (arith, long) in
-      let turned : ys ≡ get_or xs n 0 ∷ take (n - i) zs =
-      e ∙ ap (λ (z : List ℕ). drop (length z - 1) z ++ take (length z - 1) z) (take_rest xs i) ∙ ap (λ (k : ℕ). drop k zs ++ take k zs) there ∙ ap (λ (z : List ℕ). z ++ take (n - i) zs) last in
-      ap (λ (z : List ℕ). take i xs ++ z) (ap (λ (z : List ℕ). ys ++ z) (drop_all (length xs - i) zs (omega (arith, long, l, f.inside))) ∙ append-nil ys ∙ turned)
-      ∙ sym (in-there test n xs i (sym l) f)
+pub rise-start : (p i : ℕ) (a : List ℕ) → Rises p i a i p a
+unfolding Rises
+rise-start p i a h t st = record { row = t.order; small = h; stands = st; is = refl }
 
--- The bytes
+module _ (p i : ℕ) (a : List ℕ) (j c : ℕ) (b : List ℕ) (r : Rises p i a j c b) (d : List ℕ) where
+  module _ (put : c < process_limit → Turns (λ t. with_order t (set t.order j c)) b d) (h : j + 1 < process_limit) (x : ℕ) (at : Tells (λ t. get_or t.order j 0) b x) where
+    pub rise-on : (x ≡ p → ⊥) → Rises p i a (j + 1) x d
+    unfolding Rises Turns Tells
+    rise-on other hp t st =
+        let g = r hp t st in
+        let row : List ℕ = g.row in
+        let long : length row ≡ process_limit = g.stands.held.places in
+        let e : x ≡ get_or row j 0 = at (with_order t row) g.stands in
+        let far : drop (j + 1) row ≡ get_or row (j + 1) 0 ∷ drop (j + 1 + 1) row = next row (j + 1) (omega arith) in
+        record {
+          row = set row j c;
+          small = rw e (g.stands.held.row j (omega arith));
+          stands = put g.small (with_order t row) g.stands;
+          is =
+              rw (behind row j c) (walked row j c (x ∷ take_out p (drop (j + 1) row)) (omega arith))
+              ∙ ap (λ (z : List ℕ). take j row ++ c ∷ z)
+              (ap (λ (z : List ℕ). x ∷ take_out p z) far
+              ∙ sym (out-on p x (get_or row (j + 1) 0) (drop (j + 1 + 1) row) other)
+              ∙ ap (λ (z : List ℕ). take_out p (x ∷ z)) (sym far)
+              ∙ ap (λ (z : ℕ). take_out p (z ∷ drop (j + 1) row)) e
+              ∙ ap (take_out p) (sym (next row j (omega arith))))
+              ∙ g.is;
+        }
 
--- each entry names a process
-abbrev Names : List ℕ → Type 0
-Names xs = All (λ q. q < process_limit) xs
+    pub rise-stop : x ≡ p → p < process_limit → Turns (λ t. with_order t (risen p i t.order)) a d
+    unfolding Rises Turns Tells
+    rise-stop same hp t st =
+        let g = r hp t st in
+        let row : List ℕ = g.row in
+        let long : length row ≡ process_limit = g.stands.held.places in
+        let e : x ≡ get_or row j 0 = at (with_order t row) g.stands in
+        let is : set row j c ≡ risen p i t.order =
+        sym (stored row j c (omega arith))
+        ∙ ap (λ (z : List ℕ). take j row ++ c ∷ z) (sym (out-here p (get_or row j 0) (drop (j + 1) row) (sym e ∙ same)) ∙ ap (take_out p) (sym (next row j (omega arith))))
+        ∙ g.is in
+        subst (λ (z : List ℕ). Stands (with_order t z) d) is (put g.small (with_order t row) g.stands)
 
--- bytes that are t with another row written
-row-written : (t : Tables) (bs xs : List ℕ) → Stands t bs → length xs ≡ process_limit → Names xs → Stands (with_order t xs) (put_mid order_at process_limit bs xs)
-row-written t bs xs st long small =
-    let within : order_at + process_limit ≤ length bs = omega (arith, st.long) in
-    record {
-      held = record { slots = st.held.slots; entries = st.held.entries; places = long; waits = st.held.waits; fits = st.held.fits; row = λ i h. small i 0 (omega (arith, long)) };
-      long = mid-length bs xs order_at process_limit within long ∙ st.long;
-      bytes = λ i h. below? i order_at
-          (λ a. before-mid bs xs order_at process_limit within long i a ∙ st.bytes i h ∙ rw (lt-ltb i order_at a))
-          (λ a. below? i next_semaphore_at
-          (λ b. in-mid bs xs order_at process_limit within long i a b ∙ sym (place_byte (with_order t xs) (i - order_at) i (omega arith) (omega arith)))
-          (λ b. behind-mid bs xs order_at process_limit within long i b ∙ st.bytes i h ∙ rw (le-ltb i next_semaphore_at b)));
-    }
+  pub rise-end : {k : ℕ} → k + 1 ≡ process_limit → j ≡ k → (c < process_limit → Turns (λ t. with_order t (set t.order k c)) b d) → p < process_limit → Turns (λ t. with_order t (risen p i t.order)) a d
+  unfolding Rises Turns
+  rise-end {k} h e put hp t st =
+      let g = r hp t st in
+      let row : List ℕ = g.row in
+      let long : length row ≡ process_limit = g.stands.held.places in
+      let last : drop (j + 1) row ≡ [] = ended row j (omega arith) in
+      let is : set row k c ≡ risen p i t.order =
+      ap (λ (z : ℕ). set row z c) (sym e) ∙ sym (stored row j c (omega arith))
+      ∙ ap (λ (z : List ℕ). take j row ++ c ∷ z) (last ∙ sym (out-last p (get_or row j 0)) ∙ ap (λ (z : List ℕ). take_out p (get_or row j 0 ∷ z)) (sym last) ∙ ap (take_out p) (sym (next row j (omega arith))))
+      ∙ g.is in
+      subst (λ (z : List ℕ). Stands (with_order t z) d) is (put g.small (with_order t row) g.stands)
 
--- with a row whose end was turned
-turned-stands : (t : Tables) (bs xs ys : List ℕ) (i a b : ℕ) → Stands t bs → length xs ≡ process_limit → Names xs → i < process_limit
-    → ys ≡ drop a (end i xs) ++ take b (end i xs) → length ys ≡ length (end i xs)
-    → Stands (with_order t (with_end i xs ys)) (put_mid order_at process_limit bs (with_end i xs ys))
-turned-stands t bs xs ys i a b st long small inside e l =
-    let P : ℕ → Type 0 = λ q. q < process_limit in
-    let rest : All P (drop i xs) = All-drop P i xs small in
-    let part : All P (end i xs) = All-take P (length xs - i) (drop i xs) rest in
-    let turned : All P ys = All-same P ys (drop a (end i xs) ++ take b (end i xs)) e (All-append P (drop a (end i xs)) (take b (end i xs)) (All-drop P a (end i xs) part) (All-take P b (end i xs) part)) in
-    row-written t bs (with_end i xs ys) st
-    (mid-length xs ys i (length xs - i) (omega (arith, long)) (l ∙ ap length (take_rest xs i) ∙ length-drop i xs) ∙ long)
-    (All-append P (take i xs) (ys ++ drop (length xs - i) (drop i xs)) (All-take P i xs small) (All-append P ys (drop (length xs - i) (drop i xs)) turned (All-drop P (length xs - i) (drop i xs) rest)))
+-- p goes down: place j is open, and p is put in behind
 
--- the row as the code reads it, and as it writes it
-module _ (bs row : List ℕ) (told : Tells (λ t. t.order) bs row) (i : ℕ) (ys : List ℕ) where
-  abbrev order : List ℕ
-  order = slice_range bs order_at next_semaphore_at
+pub record Sinking (test : ℕ → Bool) (p i : ℕ) (t : Tables) (j : ℕ) (b : List ℕ) : Type 0 where
+  pub row : List ℕ
+  pub stands : Stands (with_order t row) b
+  pub is : sunk test p j row ≡ sunk test p i t.order
 
-  record Same (t : Tables) : Type 0 where
-    is : order ≡ t.order
-    read : row ≡ order
-    long : length order ≡ process_limit
-    small : Names order
+unfoldable pub Sinks : ℕ → ℕ → ℕ → List ℕ → ℕ → List ℕ → Type 0
+Sinks level p i a j b = p < process_limit → (t : Tables) → Stands t a → Sinking (below level t) p i t j b
 
-  same : (t : Tables) → Stands t bs → Same t
-  unfolding Tells
-  same t st =
-      let w = row-tells bs st.long in
-      let e : order ≡ t.order = w.1 t st in
-      record { is = e; read = told t st ∙ sym e; long = w.0; small = All-from_get_or (λ q. q < process_limit) order 0 (λ k h. rw e (st.held.row k (omega (arith, h, w.0)))) }
+pub sink-start : (level p i : ℕ) (a : List ℕ) → Sinks level p i a i a
+unfolding Sinks
+sink-start level p i a h t st = record { row = t.order; stands = st; is = refl }
 
-  pub out-turns : (p : ℕ) → FirstPlace (λ q. eqb q p) row i → ys ≡ drop 1 (end i (set order i p)) ++ take 1 (end i (set order i p)) → length ys ≡ length (end i (set order i p))
-      → p < process_limit → Turns (λ t. with_order t (put_last p t.order)) bs (put_mid order_at process_limit bs (with_end i (set order i p) ys))
-  unfolding Turns
-  out-turns p f e l h t st =
-      let w = same t st in
-      let g : FirstPlace (λ q. eqb q p) order i = subst (λ (z : List ℕ). FirstPlace (λ q. eqb q p) z i) w.read f in
-      subst (λ (z : List ℕ). Stands (with_order t z) (put_mid order_at process_limit bs (with_end i (set order i p) ys))) (out-turned order i (process_limit - 1) w.long ys p g e ∙ ap (put_last p) w.is)
-      (turned-stands t bs (set order i p) ys i 1 1 st (length-set order i p ∙ w.long) (All-set (λ q. q < process_limit) order i p h w.small) (omega (arith, g.inside, w.long)) e l)
+module _ (level p i : ℕ) (a : List ℕ) (j : ℕ) (b : List ℕ) (r : Sinks level p i a j b) (d : List ℕ) where
+  module _ (h : j + 1 < process_limit) (y : ℕ) (v : Bool) (at : Tells (λ t. get_or t.order (j + 1) 0) b y) (told : v ≡ low level (process_at b y)) where
+    -- what was read, of the tables
+    seen : (t : Tables) (g : Sinking (below level t) p i t j b) → (y < process_limit) × (v ≡ below level t y) × (drop (j + 1) g.row ≡ y ∷ drop (j + 1 + 1) g.row)
+    unfolding Tells
+    seen t g =
+        let row : List ℕ = g.row in
+        let long : length row ≡ process_limit = g.stands.held.places in
+        let e : y ≡ get_or row (j + 1) 0 = at (with_order t row) g.stands in
+        let small : y < process_limit = rw e (g.stands.held.row (j + 1) (omega arith)) in
+        (small, told ∙ ap (low level) (process-read (with_order t row) b g.stands y small), next row (j + 1) (omega arith) ∙ ap (λ (z : ℕ). z ∷ drop (j + 1 + 1) row) (sym e))
 
-  pub in-turns : (level : ℕ) → FirstPlace (λ q. low level (process_at bs q)) row i → ys ≡ drop (length (end i order) - 1) (end i order) ++ take (length (end i order) - 1) (end i order) → length ys ≡ length (end i order)
-      → Turns (λ t. with_order t (put_back (below level t) t.order)) bs (put_mid order_at process_limit bs (with_end i order ys))
-  unfolding Turns
-  in-turns level f e l t st =
-      let w = same t st in
-      let g : FirstPlace (below level t) order i =
-      alike (λ q. low level (process_at bs q)) (below level t) order i (λ k h. ap (low level) (process-read t bs st (get_or order k 0) (w.small k 0 h))) (subst (λ (z : List ℕ). FirstPlace (λ q. low level (process_at bs q)) z i) w.read f) in
-      subst (λ (z : List ℕ). Stands (with_order t z) (put_mid order_at process_limit bs (with_end i order ys))) (in-turned order i (process_limit - 1) w.long ys (below level t) g e ∙ ap (put_back (below level t)) w.is)
-      (turned-stands t bs order ys i (length (end i order) - 1) (length (end i order) - 1) st w.long w.small (omega (arith, g.inside, w.long)) e l)
+    pub sink-on : v ≡ false → (y < process_limit → Turns (λ t. with_order t (set t.order j y)) b d) → Sinks level p i a (j + 1) d
+    unfolding Sinks Turns
+    sink-on low put hp t st =
+        let g = r hp t st in
+        let row : List ℕ = g.row in
+        let long : length row ≡ process_limit = g.stands.held.places in
+        let w = seen t g in
+        let rest : List ℕ = drop (j + 1 + 1) row in
+        let tail : drop (j + 1 + 1) (set row j y) ≡ rest = drop-set-lt (j + 1 + 1) row j y (omega arith) in
+        record {
+          row = set row j y;
+          stands = put w.0 (with_order t row) g.stands;
+          is =
+              ap (λ (z : List ℕ). take (j + 1) (set row j y) ++ put_before (below level t) p z) tail
+              ∙ walked row j y (put_before (below level t) p rest) (omega arith)
+              ∙ ap (λ (z : List ℕ). take j row ++ z) (sym (before_on p y (below level t) rest (sym w.1 ∙ low)) ∙ ap (put_before (below level t) p) (sym w.2))
+              ∙ g.is;
+        }
 
--- the whole move
-pub moved : (p level : ℕ) (a b d : List ℕ) → (p < process_limit → Turns (λ t. with_order t (put_last p t.order)) a b) → Turns (λ t. with_order t (put_back (below level t) t.order)) b d → p < process_limit → Turns (placed p level) a d
+    pub sink-stop : v ≡ true → (p < process_limit → Turns (λ t. with_order t (set t.order j p)) b d) → p < process_limit → Turns (λ t. with_order t (sunk (below level t) p i t.order)) a d
+    unfolding Sinks Turns
+    sink-stop passes put hp t st =
+        let g = r hp t st in
+        let row : List ℕ = g.row in
+        let long : length row ≡ process_limit = g.stands.held.places in
+        let w = seen t g in
+        let is : set row j p ≡ sunk (below level t) p i t.order =
+        sym (stored row j p (omega arith))
+        ∙ ap (λ (z : List ℕ). take j row ++ z)
+        (ap (λ (z : List ℕ). p ∷ z) w.2 ∙ sym (before_here p y (below level t) (drop (j + 1 + 1) row) (sym w.1 ∙ passes)) ∙ ap (put_before (below level t) p) (sym w.2))
+        ∙ g.is in
+        subst (λ (z : List ℕ). Stands (with_order t z) d) is (put hp (with_order t row) g.stands)
+
+  pub sink-end : {k : ℕ} → k + 1 ≡ process_limit → j ≡ k → (p < process_limit → Turns (λ t. with_order t (set t.order k p)) b d) → p < process_limit → Turns (λ t. with_order t (sunk (below level t) p i t.order)) a d
+  unfolding Sinks Turns
+  sink-end {k} h e put hp t st =
+      let g = r hp t st in
+      let row : List ℕ = g.row in
+      let long : length row ≡ process_limit = g.stands.held.places in
+      let last : drop (j + 1) row ≡ [] = ended row j (omega arith) in
+      let is : set row k p ≡ sunk (below level t) p i t.order =
+      ap (λ (z : ℕ). set row z p) (sym e) ∙ sym (stored row j p (omega arith))
+      ∙ ap (λ (z : List ℕ). take j row ++ z) (ap (λ (z : List ℕ). p ∷ z) last ∙ sym (before-none (below level t) p) ∙ ap (put_before (below level t) p) (sym last))
+      ∙ g.is in
+      subst (λ (z : List ℕ). Stands (with_order t z) d) is (put hp (with_order t row) g.stands)
+
+-- Where a search ends
+
+-- what a search finds, with the length for none
+found-there : (test : ℕ → Bool) (xs : List ℕ) (o : Option ℕ) (n i : ℕ) → length xs ≡ n → o ≡ position test xs → i ≡ unwrap_or o n → i ≡ position_or_len test xs
+found-there test xs o n i l e u =
+    u ∙ ap (λ (z : Option ℕ). unwrap_or z n) e
+    ∙ below? (position_or_len test xs) (length xs)
+    (λ h. rw (lt-ltb (position_or_len test xs) (length xs) h) refl)
+    (λ h. let none : n ≡ position_or_len test xs = omega (arith, l, h, prefix_len-le-length (λ x. not (test x)) xs) in rw (le-ltb (position_or_len test xs) (length xs) h) none)
+
+-- of a search in the row but for its last place
+pub found-within : (test : ℕ → Bool) (row : List ℕ) (o : Option ℕ) (i : ℕ) → length row ≡ process_limit → o ≡ position test (take (process_limit - 1) row) → i ≡ unwrap_or o (process_limit - 1) → i ≤ process_limit - 1
+found-within test row o i l e u =
+    let part : List ℕ = take (process_limit - 1) row in
+    let long : length part ≡ process_limit - 1 = omega (arith, length-take (process_limit - 1) row, l) in
+    omega (arith, long, found-there test part o (process_limit - 1) i long e u, prefix_len-le-length (λ x. not (test x)) part)
+
+-- the same place by a test that agrees on the entries
+same-there : (f g : ℕ → Bool) (xs : List ℕ) → ((k : ℕ) → k < length xs → f (get_or xs k 0) ≡ g (get_or xs k 0)) → position_or_len f xs ≡ position_or_len g xs
+same-there f g [] e = refl
+same-there f g (x ∷ xs) e = rw (e 0 (omega arith)) (ap (λ (n : ℕ). cond (not (g x)) (1 + n) 0) (same-there f g xs (λ k h. e (suc k) (omega arith))))
+
+-- The whole move
+
+-- a place found by a search for p or one that passes, in a row but for its last place
+spotted : (test : ℕ → Bool) (p n : ℕ) (xs : List ℕ) → length xs ≡ suc n → (i : ℕ) → i ≡ position_or_len (λ q. eqb q p || test q) (take n xs)
+    → (get_or xs i 0 ≡ p → sunk test p i xs ≡ place test p xs) × ((get_or xs i 0 ≡ p → ⊥) → risen p i xs ≡ place test p xs)
+unfolding place take_out put_before
+spotted test p n [] l i e = absurd (omega (arith, l))
+spotted test p zero (x ∷ []) l i e = rw e (λ q. refl, λ q. refl)
+spotted test p (suc n) (x ∷ []) l i e = absurd (omega (arith, l))
+spotted test p zero (x ∷ y ∷ ys) l i e = absurd (omega (arith, l))
+spotted test p (suc n) (x ∷ y ∷ ys) l i e =
+    let k : ℕ = position_or_len (λ q. eqb q p || test q) (take n (y ∷ ys)) in
+    let rest = spotted test p n (y ∷ ys) (omega (arith, l)) k refl in
+    let more : 1 + k ≡ suc k = omega arith in
+    either x p
+    (λ s. let first : i ≡ 0 = e ∙ rw (eq-eqb x p s) refl in rw first (λ q. rw (eq-eqb x p s) refl, λ q. absurd (q s)))
+    (λ o. split (test x)
+    (λ v. let first : i ≡ 0 = e ∙ rw (ne_eqb x p o, v) refl in rw first (λ q. absurd (o q), λ q. rw (ne_eqb x p o, v) refl))
+    (λ v.
+    let later : i ≡ suc k = e ∙ rw (ne_eqb x p o, v) more in
+    rw later (λ q. rw (ne_eqb x p o, v, add-one) (ap (λ (z : List ℕ). x ∷ z) (rw add-one at (rest.0 q))), λ q. rw (ne_eqb x p o, v) (ap (λ (z : List ℕ). x ∷ z) (rest.1 q)))))
+
+pub spot-spotted : (level p i : ℕ) (bs row : List ℕ) (o : Option ℕ) → Tells (λ t. t.order) bs row → length row ≡ process_limit → o ≡ position (λ q. eqb q p || low level (process_at bs q)) (take (process_limit - 1) row)
+    → i ≡ unwrap_or o (process_limit - 1) → (i < process_limit) × Spotted p level i bs
+unfolding Spotted Tells
+spot-spotted level p i bs row o told l e u = (omega (arith, found-within (λ q. eqb q p || low level (process_at bs q)) row o i l e u), there)
+  where
+    there : (t : Tables) → Stands t bs → (get_or t.order i 0 ≡ p → sunk (below level t) p i t.order ≡ place (below level t) p t.order) × ((get_or t.order i 0 ≡ p → ⊥) → risen p i t.order ≡ place (below level t) p t.order)
+    there t st =
+        let others : List ℕ = take (process_limit - 1) t.order in
+        let long : length others ≡ process_limit - 1 = omega (arith, length-take (process_limit - 1) t.order, st.held.places) in
+        let small : (k : ℕ) → k < length others → get_or others k 0 < process_limit = λ k h. rw (get_or-take (process_limit - 1) t.order k 0 (omega (arith, h, long))) (st.held.row k (omega (arith, h, long))) in
+        spotted (below level t) p (process_limit - 1) t.order st.held.places i
+        (found-there (λ q. eqb q p || low level (process_at bs q)) others o (process_limit - 1) i long (e ∙ ap (λ (z : List ℕ). position (λ q. eqb q p || low level (process_at bs q)) (take (process_limit - 1) z)) (told t st)) u
+        ∙ same-there (λ q. eqb q p || low level (process_at bs q)) (λ q. eqb q p || below level t q) others (λ k h. ap (λ (x : Process). eqb (get_or others k 0) p || low level x) (process-read t bs st (get_or others k 0) (small k h))))
+
+module _ (p level i q : ℕ) (a b : List ℕ) (s : Spotted p level i a) (at : Tells (λ t. get_or t.order i 0) a q) where
+  pub moved_down : q ≡ p → (p < process_limit → Turns (λ t. with_order t (sunk (below level t) p i t.order)) a b) → p < process_limit → Turns (placed p level) a b
+  unfolding Turns Spotted Tells
+  moved_down e f h t st = subst (λ (z : List ℕ). Stands (with_order t z) b) ((s t st).0 (sym (at t st) ∙ e)) (f h t st)
+
+  pub moved_up : (q ≡ p → ⊥) → (p < process_limit → Turns (λ t. with_order t (risen p i t.order)) a b) → p < process_limit → Turns (placed p level) a b
+  unfolding Turns Spotted Tells
+  moved_up e f h t st = subst (λ (z : List ℕ). Stands (with_order t z) b) ((s t st).1 (λ z. e (at t st ∙ z))) (f h t st)
+
+-- nobody is below level 0
+none-low : (x : Process) → low 0 x ≡ false
+none-low x = split (is_ready x.state) (λ e. rw (e, le-ltb x.priority 0 (omega arith)) refl) (λ e. rw e refl)
+
+none-before : (t : Tables) (p : ℕ) (xs : List ℕ) → put_before (below 0 t) p xs ≡ xs ++ p ∷ []
+unfolding put_before
+none-before t p [] = refl
+none-before t p (x ∷ xs) = rw (none-low (process t x)) (ap (λ (z : List ℕ). x ∷ z) (none-before t p xs))
+
+pub moved-last : (p : ℕ) (a b : List ℕ) → (p < process_limit → Turns (placed p 0) a b) → p < process_limit → Turns (λ t. with_order t (put_last p t.order)) a b
 unfolding Turns place
-moved p level a b d out back h t st =
-    let s = out h t st in
-    let others : List ℕ = take_out p t.order in
-    let long : length others ≡ process_limit - 1 = omega (arith, s.held.places, length-append others (p ∷ [])) in
-    subst (λ (z : List ℕ). Stands (with_order t z) d)
-    (ap (λ (q : ℕ). put_before (below level t) q (take (process_limit - 1) (others ++ p ∷ []))) (get_or_at others p [] 0 (process_limit - 1) long) ∙ ap (put_before (below level t) p) (take_at others (p ∷ []) (process_limit - 1) long))
-    (back (with_order t (put_last p t.order)) s)
+moved-last p a b f h t st = subst (λ (z : List ℕ). Stands (with_order t z) b) (none-before t p (take_out p t.order)) (f h t st)

@@ -1,9 +1,9 @@
 -- The row as the code walks it.
-use Rattle.std.specs.Prelude.{ℕ, Bool, ◌&&◌, Option, None, Some, List, [], ◌∷◌, ◌++◌, ◌+◌, ◌-◌, eqb, get_or, ltb, take}
+use Rattle.std.specs.Prelude.{ℕ, Bool, ◌&&◌, Option, None, Some, List, [], ◌∷◌, ◌++◌, ◌+◌, ◌≡◌, drop, eqb, get_or, ltb, take}
 use Rattle.layout.specs.Offsets.{states_at}
 use Rattle.layout.specs.Bytes.{state_byte}
+use Rattle.layout.specs.Stands.{Stands}
 use Rattle.lists.specs.Lists.{place, place_in, put_before, take_out}
-use Rattle.tables.specs.Limits.{process_limit}
 use Rattle.tables.specs.Readers.{line, process}
 use Rattle.tables.specs.Setters.{with_order}
 use Rattle.tables.specs.States.{is_ready}
@@ -42,9 +42,21 @@ below level t x = low level (process t x)
 abbrev pub placed : ℕ → ℕ → Tables → Tables
 placed p level t = with_order t (place (below level t) p t.order)
 
--- the two halves of that: p taken out and put last, and who stands last put back before the first of the others that passes
+-- p taken out and put last
 abbrev pub put_last : ℕ → List ℕ → List ℕ
 put_last p xs = take_out p xs ++ p ∷ []
 
-abbrev pub put_back : (ℕ → Bool) → List ℕ → List ℕ
-put_back test xs = put_before test (get_or xs (process_limit - 1) 0) (take (process_limit - 1) xs)
+-- p put in at place i, and taken out behind it
+abbrev pub risen : ℕ → ℕ → List ℕ → List ℕ
+risen p i xs = take i xs ++ p ∷ take_out p (drop i xs)
+
+-- what stands at place i taken out, and p put in behind
+abbrev pub sunk : (ℕ → Bool) → ℕ → ℕ → List ℕ → List ℕ
+sunk test p i xs = take i xs ++ put_before test p (drop (i + 1) xs)
+
+-- the move of p begins at place i: p stands there and sinks, or another does and p rises to it
+unfoldable pub Spotted : ℕ → ℕ → ℕ → List ℕ → Type 0
+Spotted p level i bs =
+    (t : Tables) → Stands t bs →
+    (get_or t.order i 0 ≡ p → sunk (below level t) p i t.order ≡ place (below level t) p t.order)
+    × ((get_or t.order i 0 ≡ p → ⊥) → risen p i t.order ≡ place (below level t) p t.order)

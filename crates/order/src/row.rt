@@ -4,9 +4,9 @@ ghost use Rattle.tables.specs.Limits.{process_limit};
 ghost use Rattle.tables.specs.Setters.{with_order};
 ghost use Rattle.layout.specs.Bytes.{process_at};
 ghost use Rattle.layout.specs.Stands.{Turns, Tells};
-ghost use Rattle.order.specs.Row.{found, has_state, place_among, low, below, placed, put_back, put_last};
+ghost use Rattle.order.specs.Row.{found, has_state, place_among, low, below, placed, put_last, risen, sunk, Spotted};
 
-use layout::fields::process_at;
+use layout::fields::{place, process_at, put_place};
 use layout::offsets::{NEXT_SEMAPHORE, ORDER, SIZE, STATES};
 use tables::{State, Tables};
 
@@ -58,32 +58,64 @@ fn passes(bytes: &[u8; SIZE], q: u8, level: u8) -> bool
     x.state == State::Ready && x.priority < level
 }
 
-// `p` is taken out of the row and put last.
-pub fn put_last(bytes: &mut [u8; SIZE], p: u8)
-    ensures { p < process_limit → Turns (λ t. with_order t (put_last p t.order)) bytes.old bytes.new }
+// The first place where `p` stands or a process passes, or the last place.
+fn spot(bytes: &[u8; SIZE], p: u8, level: u8) -> usize
+    ensures { (result < process_limit) × Spotted p level result bytes.now }
 {
-    let from = row(bytes).iter().position(|q| *q == p).unwrap_or(LAST);
-    let order = &mut bytes[ORDER..NEXT_SEMAPHORE];
-    order[from] = p;
-    order[from..].rotate_left(1);
+    row(bytes)[..LAST]
+        .iter()
+        .position(|q| *q == p || passes(bytes, *q, level))
+        .unwrap_or(LAST)
 }
 
-// Who stands last is put back before the first of the others that passes, or stays.
-fn put_back(bytes: &mut [u8; SIZE], level: u8)
-    ensures { Turns (λ t. with_order t (put_back (below level t) t.order)) bytes.old bytes.new }
+// `p` is put in at place `i`; what stands from there on moves one place on, as far as to where `p` stood. By place: the library's `rotate_right` would ask the board for `memmove`.
+fn rise(bytes: &mut [u8; SIZE], i: usize, p: u8)
+    requires { i < process_limit }
+    ensures { p < process_limit → Turns (λ t. with_order t (risen p i t.order)) bytes.old bytes.new }
 {
-    let to = row(bytes)
-        .iter()
-        .position(|q| passes(bytes, *q, level))
-        .unwrap_or(LAST);
-    let order = &mut bytes[ORDER..NEXT_SEMAPHORE];
-    order[to..].rotate_right(1);
+    let mut carry = p;
+    for j in i..LAST {
+        let x = place(bytes, j);
+        put_place(bytes, j, carry);
+        if x == p {
+            return;
+        }
+        carry = x;
+    }
+    put_place(bytes, LAST, carry);
+}
+
+// `p`, which stands at place `i`, moves on to before the first that passes, which is looked for on the way: so the others move no further than they must.
+fn sink(bytes: &mut [u8; SIZE], i: usize, p: u8, level: u8)
+    requires { i < process_limit }
+    ensures { p < process_limit → Turns (λ t. with_order t (sunk (below level t) p i t.order)) bytes.old bytes.new }
+{
+    for j in i..LAST {
+        let y = place(bytes, j + 1);
+        if passes(bytes, y, level) {
+            put_place(bytes, j, p);
+            return;
+        }
+        put_place(bytes, j, y);
+    }
+    put_place(bytes, LAST, p);
 }
 
 // `p` is taken out of the row and put back before the first ready process below the level, or last.
 pub fn reposition(bytes: &mut [u8; SIZE], p: u8, level: u8)
     ensures { p < process_limit → Turns (placed p level) bytes.old bytes.new }
 {
-    put_last(bytes, p);
-    put_back(bytes, level);
+    let i = spot(bytes, p, level);
+    if place(bytes, i) == p {
+        sink(bytes, i, p, level);
+    } else {
+        rise(bytes, i, p);
+    }
+}
+
+// `p` is taken out of the row and put last: nobody is below level 0.
+pub fn put_last(bytes: &mut [u8; SIZE], p: u8)
+    ensures { p < process_limit → Turns (λ t. with_order t (put_last p t.order)) bytes.old bytes.new }
+{
+    reposition(bytes, p, 0);
 }
