@@ -1,17 +1,18 @@
 // The start of the line that is not ended yet.
-ghost use Rattle.std.specs.Prelude.{◌≡◌, ◌≤◌, [], length};
+ghost use Rattle.std.specs.Prelude.{◌≡◌, ℕ, ◌≤◌, [], get_or, length};
 
 use lines::line::LINE;
 
 // One character more than a right line has, so that a longer one is known.
 const HELD: usize = LINE + 1;
 
-// An array beside a count, since a Part is Copy, and none of the kit's small vectors is.
+// An array beside a count, since a Part is Copy, and none of the kit's small vectors is. Zeros stand behind the count, so that two that hold the same are the same.
 #[derive(Clone, Copy)]
 pub struct Part {
     bytes: [u8; HELD],
     count: usize,
     ghost within: { count ≤ length bytes },
+    ghost rest: { (i : ℕ) → count ≤ i → get_or bytes i 0 ≡ 0 },
 }
 
 impl Part {
