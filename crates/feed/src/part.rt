@@ -1,5 +1,6 @@
 // The start of the line that is not ended yet.
-ghost use Rattle.std.specs.Prelude.{◌≡◌, ℕ, ◌≤◌, [], get_or, length};
+ghost use Rattle.std.specs.Prelude.{◌≡◌, ◌+◌, ◌-◌, ◌≤◌, [], drop, length, replicate};
+ghost use Rattle.lines.specs.Line.{line_length};
 
 use lines::line::LINE;
 
@@ -12,7 +13,7 @@ pub struct Part {
     bytes: [u8; HELD],
     count: usize,
     ghost within: { count ≤ length bytes },
-    ghost rest: { (i : ℕ) → count ≤ i → get_or bytes i 0 ≡ 0 },
+    ghost rest: { drop count bytes ≡ replicate (line_length + 1 - count) 0 },
 }
 
 impl Part {
